@@ -1,0 +1,97 @@
+-- Lowering, second half: a script becomes sections. A section knows its number and its successor as it is made.
+use mathlib.Core.Bool.{Bool, true, false, cond}
+use mathlib.Core.List.{List, [], _∷_, _++_, map}
+use Prim.Native.Nat.{ℕ, zero, suc, _+_}
+use lib.ListN.{length}
+use lib.Dec.{eqb}
+use Rattle.rules.specs.Opcode as Op
+use Rattle.rules.specs.Instr.{Instruction, ins₂, aimed}
+use Rattle.rules.specs.Machine.{SectionOrLine, unfixed, section, line, SectionCode, absent}
+use Rattle.rules.specs.Script.{Stmts, nil, plain, goto, ite, Script, isNil}
+
+-- the line that follows line i of L: line 0 follows the last
+abbrev pub nextLine : ℕ → ℕ → ℕ
+nextLine L i = cond (eqb (suc i) L) 0 (suc i)
+
+-- ---- how many sections a list makes; in an ite an empty list makes one all the same
+
+abbrev pub orOne : Stmts → ℕ → ℕ
+orOne s n = cond (isNil s) 1 n
+
+abbrev pub width : Stmts → ℕ
+width nil = 0
+width (plain o s) = suc (width s)
+width (goto o r s) = suc (width s)
+width (ite o c t e s) = suc (orOne t (width t) + (orOne e (width e) + suc (width s)))
+
+-- ---- a list's sections
+
+-- own instructions, whose error jumps go to line e
+abbrev pub ownCode : ℕ → List Instruction → List Instruction
+ownCode e o = map (aimed e) o
+
+-- where a list whose sections start at n and that is left to k is entered
+abbrev pub entry : Stmts → ℕ → ℕ → ℕ
+entry s n k = cond (isNil s) k n
+
+-- the successor of the last section of a linked (true) or an unlinked (false) statement
+abbrev pub link : Bool → ℕ → SectionOrLine
+link true t = section t
+link false t = unfixed
+
+-- an ite's jump by register c to its then-list at n; an empty one has none
+abbrev pub condJump : ℕ → ℕ → Instruction
+condJump n c = ins₂ Op.JumpSectionIf n c
+
+abbrev pub condCode : Stmts → ℕ → ℕ → List Instruction
+condCode t c n = cond (isNil t) [] (condJump n c ∷ [])
+
+abbrev pub inner : List Instruction → SectionOrLine → SectionCode
+inner c x = record { lineStart = false; instrs = c; success = x }
+
+-- an empty list of an ite: one section without code
+abbrev pub orEmpty : Stmts → ℕ → List SectionCode → List SectionCode
+orEmpty s k l = cond (isNil s) (inner [] (section k) ∷ []) l
+
+-- the sections of a list, in the order of their making, the first with number n; e is the line that errors go to, k the section
+-- that follows the list; b: the statements are linked; behind a goto they are not, not even to each other
+abbrev pub stmtSections : Bool → ℕ → ℕ → ℕ → Stmts → List SectionCode
+stmtSections b e n k nil = []
+stmtSections b e n k (plain o s) = inner (ownCode e o) (link b (entry s (suc n) k)) ∷ stmtSections b e (suc n) k s
+stmtSections b e n k (goto o r s) = inner (ownCode e o) (line r) ∷ stmtSections false e (suc n) k s
+stmtSections b e n k (ite o c t f s) =
+    let nf = suc n + orOne t (width t) in
+    let nj = nf + orOne f (width f) in
+    inner (ownCode e o ++ condCode t c (suc n)) (section nf)
+    ∷ (orEmpty t nj (stmtSections true e (suc n) nj t)
+    ++ (orEmpty f nj (stmtSections true e nf nj f) ++ (inner [] (link b (entry s (suc nj) k)) ∷ stmtSections b e (suc nj) k s)))
+
+-- ---- lines
+
+abbrev pub asStart : SectionCode → SectionCode
+asStart s = record { lineStart = true; instrs = s .instrs; success = s .success }
+
+-- a line's section that stands at the line's number: its first, which traded places; of an empty line the placeholder, linked
+abbrev pub headOf : ℕ → List SectionCode → SectionCode
+headOf e [] = record { lineStart = true; instrs = []; success = section e }
+headOf e (s ∷ ss) = asStart s
+
+-- a line's other sections: the placeholder, where the first was made, and the rest
+abbrev pub tailOf : List SectionCode → List SectionCode
+tailOf [] = []
+tailOf (s ∷ ss) = absent ∷ ss
+
+-- line i's sections; the next section made has the number n
+abbrev pub lineSections : ℕ → ℕ → ℕ → Stmts → List SectionCode
+lineSections L i n s = stmtSections true (nextLine L i) n (nextLine L i) s
+
+abbrev pub heads : ℕ → ℕ → ℕ → Script → List SectionCode
+heads L i n [] = []
+heads L i n (s ∷ ss) = headOf (nextLine L i) (lineSections L i n s) ∷ heads L (suc i) (n + width s) ss
+
+abbrev pub tails : ℕ → ℕ → ℕ → Script → List SectionCode
+tails L i n [] = []
+tails L i n (s ∷ ss) = tailOf (lineSections L i n s) ++ tails L (suc i) (n + width s) ss
+
+unfoldable pub sectionsOf : Script → List SectionCode
+sectionsOf t = heads (length t) 0 (length t) t ++ tails (length t) 0 (length t) t

@@ -1,0 +1,76 @@
+-- What is read of a tree: its script with the instructions replaced, in the order of the lowered sections, and with nothing out of a machine.
+use mathlib.Core.List.{List, [], _∷_}
+use Prim.Native.Nat.{ℕ}
+use lib.ListN.{length}
+use Rattle.rules.specs.Tree.{Tree}
+use Rattle.rules.specs.CodegenData.{CodegenData}
+use Rattle.rules.specs.Annotate.{annotate}
+use Rattle.rules.specs.Lowered.{spans, texts}
+use Rattle.rules.specs.Replace.{Regs, rules, lookup, replaceCode}
+use Rattle.rules.specs.Script.{Stmts, nil, plain, goto, ite, Script}
+use Rattle.rules.specs.Walk.{Trace}
+use Rattle.rules.specs.ReadScript.{readScript}
+
+-- all statements of a list; p is the pool's length
+abbrev pub repAll : ℕ → Regs → Stmts → Stmts × Regs
+repAll p r nil = (nil, r)
+repAll p r (plain o s) =
+    let x = replaceCode p r o in
+    let y = repAll p (x .1) s in
+    (plain (x .0) (y .0), y .1)
+repAll p r (goto o k s) =
+    let x = replaceCode p r o in
+    let y = repAll p (x .1) s in
+    (goto (x .0) k (y .0), y .1)
+repAll p r (ite o c t f s) =
+    let x = replaceCode p r o in
+    let a = repAll p (x .1) t in
+    let b = repAll p (a .1) f in
+    let y = repAll p (b .1) s in
+    (ite (x .0) c (a .0) (b .0) (y .0), y .1)
+
+-- the first statement's own instructions; all the others
+abbrev pub repFirst : ℕ → Regs → Stmts → Stmts × Regs
+repFirst p r nil = (nil, r)
+repFirst p r (plain o s) = let x = replaceCode p r o in (plain (x .0) s, x .1)
+repFirst p r (goto o k s) = let x = replaceCode p r o in (goto (x .0) k s, x .1)
+repFirst p r (ite o c t f s) = let x = replaceCode p r o in (ite (x .0) c t f s, x .1)
+
+abbrev pub repRest : ℕ → Regs → Stmts → Stmts × Regs
+repRest p r nil = (nil, r)
+repRest p r (plain o s) = let y = repAll p r s in (plain o (y .0), y .1)
+repRest p r (goto o k s) = let y = repAll p r s in (goto o k (y .0), y .1)
+repRest p r (ite o c t f s) =
+    let a = repAll p r t in
+    let b = repAll p (a .1) f in
+    let y = repAll p (b .1) s in
+    (ite o c (a .0) (b .0) (y .0), y .1)
+
+abbrev pub firsts : ℕ → Regs → Script → Script × Regs
+firsts p r [] = ([], r)
+firsts p r (s ∷ t) =
+    let x = repFirst p r s in
+    let y = firsts p (x .1) t in
+    (x .0 ∷ y .0, y .1)
+
+abbrev pub rests : ℕ → Regs → Script → Script × Regs
+rests p r [] = ([], r)
+rests p r (s ∷ t) =
+    let x = repRest p r s in
+    let y = rests p (x .1) t in
+    (x .0 ∷ y .0, y .1)
+
+-- the first sections of all lines come first, then line by line the others
+abbrev pub repScript : ℕ → Regs → Script → Script × Regs
+repScript p r t = let x = firsts p r t in rests p (x .1) (x .0)
+
+-- a tree's lines with their instructions as the machine has them
+unfoldable pub script : Tree → Script
+unfolding annotate spans texts rules lookup
+script t =
+    let (ss, g) = annotate t in
+    repScript (length (texts (g .strings))) (record { numbers = g .numbers; strings = spans 0 (g .strings) }) ss .0
+
+unfoldable pub reading : Tree → List ℕ → ℕ → Trace
+unfolding script
+reading t os = readScript (script t) os
