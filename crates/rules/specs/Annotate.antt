@@ -1,4 +1,4 @@
--- Lowering, first half: every statement gets its own instructions. Registers count up as lowering meets them.
+-- Lowering, first factor: every statement gets its own instructions. Registers count up as lowering meets them, unlinked statements included.
 use mathlib.Core.Bool.{Bool, true, false}
 use mathlib.Core.List.{List, [], _∷_}
 use mathlib.Core.Option.{Option, none, some}
@@ -13,7 +13,9 @@ use Rattle.rules.specs.Script.{Stmts, nil, plain, Script}
 use Rattle.rules.specs.CodegenData.{CodegenData, Lower, pure, _>>=_, emit, newNum, newStr, scoped}
 use Rattle.rules.specs.Operators.{getVariable, copyValreg, makeTruthy, numberify, makeVal, makeArithBinop, applyBinop, applyUnop, codegenIncdec}
 
--- an expression's value register
+-- ---- expressions
+
+-- an expression's value register; in a Binop the right operand is lowered and copied before the left
 unfoldable pub codegenFromExpr : Expr → Lower ℕ
 unfolding applyBinop applyUnop copyValreg codegenIncdec getVariable makeVal
 codegenFromExpr (binop o l r) = do
@@ -43,6 +45,7 @@ store m v = do
   o ← m
   emit (ins₂ Op.CopyVal o v)
 
+-- the value e assigned to the variable v by an operator
 unfoldable pub assignBy : Assignop → ℕ → ℕ → Lower ℕ
 unfolding store makeArithBinop
 assignBy Plain v e = emit (ins₂ Op.CopyVal e v)
@@ -53,6 +56,7 @@ assignBy DivTo v e = store (makeArithBinop Op.Div v e) v
 assignBy ModTo v e = store (makeArithBinop Op.Rem v e) v
 assignBy PowTo v e = store (makeArithBinop Op.Pow v e) v
 
+-- an Assign: its expression is lowered before its name is met
 unfoldable pub codegenFromAssign : ℕ → Assignop → Expr → Lower ℕ
 unfolding codegenFromExpr getVariable assignBy
 codegenFromAssign x o e = do
@@ -60,19 +64,21 @@ codegenFromAssign x o e = do
   v ← getVariable x
   assignBy o v r
 
+-- an Ite's condition, as a number register
 unfoldable pub condition : Expr → Lower ℕ
 unfolding codegenFromExpr makeTruthy
 condition e = do
   r ← codegenFromExpr e
   makeTruthy r
 
+-- a Goto's line, as a number register
 unfoldable pub lineNumber : Expr → Lower ℕ
 unfolding codegenFromExpr numberify
 lineNumber e = do
   r ← codegenFromExpr e
   numberify r
 
--- a list of statements
+-- a list of statements, each with its own instructions
 unfoldable pub annotateStmts : Block → Lower Stmts
 unfolding lineNumber condition codegenIncdec codegenFromAssign
 annotateStmts end = pure nil
@@ -95,6 +101,8 @@ annotateStmts (assign x o e xs) = do
   s ← annotateStmts xs
   pure (plain c s)
 
+-- ---- lines
+
 unfoldable pub annotateLines : List Block → Lower Script
 unfolding annotateStmts
 annotateLines [] = pure []
@@ -107,7 +115,7 @@ annotateLines (b ∷ bs) = do
 unfoldable pub fresh : ℕ → CodegenData
 fresh n = record { instrs = []; numbers = []; strings = []; values = 0; names = replicate n none }
 
--- the annotated lines, and the registers
+-- a tree's annotated lines, and the registers
 unfoldable pub annotate : Tree → Script × CodegenData
 unfolding annotateLines fresh
 annotate t = annotateLines (t .lines) (fresh (length (t .names)))

@@ -13,7 +13,6 @@ pub mod CodegenData
 pub mod Operators
 pub mod Annotate
 pub mod Assemble
-pub mod Codegen
 pub mod Replace
 pub mod Clean
 pub mod Combine
@@ -22,6 +21,8 @@ pub mod Operations
 pub mod Walk
 pub mod ReadScript
 pub mod Reading
+pub mod Demand
 pub mod Listing
 pub mod Examples
-pub mod ScriptExamples
+pub mod OperationExamples
+pub mod WalkExamples

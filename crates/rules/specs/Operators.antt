@@ -1,9 +1,8 @@
--- The small steps of codegen.rs: what is emitted for an operator on value registers. Names are yogi's.
-use mathlib.Core.Bool.{Bool, true, false, _||_}
+-- The small steps of codegen.rs under their names there: what is emitted for an operator on value registers.
+use mathlib.Core.Bool.{Bool, true, false}
 use mathlib.Core.List.{List, [], _∷_, _++_}
 use mathlib.Core.Option.{Option, none, some}
 use Prim.Native.Nat.{ℕ, zero, suc, _+_}
-use lib.Dec.{eqb}
 use lib.IntN.{ℤ, pos}
 use lib.ListN.{getD}
 use Rattle.rules.specs.Tree.{Binop, Unop}
@@ -13,26 +12,31 @@ use Rattle.rules.specs.Instr.{Instruction, ins₁, ins₂, ins₃, canRu
 use Rattle.rules.specs.Opcode as Op
 use Rattle.rules.specs.CodegenData.{CodegenData, Lower, pure, _>>=_, _>>_, emit, newNum, newVal, bindName}
 
+-- an error jump; its target is left aside until its statement stands in a line
 abbrev pub errorJump : Instruction
 errorJump = ins₁ Op.JumpIfError 0
 
--- ---- yogi's small steps; an error jump's target is left aside until its statement stands in a line
+-- ---- registers
 
+-- a name's value register: a new one where it is met for the first time
 unfoldable pub getVariable : ℕ → Lower ℕ
 getVariable x g = elim (getD (g .names) x none) [ some v ↦ (v, g) | none ↦ bindName x g ]
 
+-- a copy of a value register
 unfoldable pub copyValreg : ℕ → Lower ℕ
 copyValreg r = do
   v ← newVal
   emit (ins₂ Op.CopyVal r v)
   pure v
 
+-- whether a value is truthy, as a number
 unfoldable pub makeTruthy : ℕ → Lower ℕ
 makeTruthy r = do
   n ← newNum (pos 0)
   emit (ins₂ Op.IsTruthyVal r n)
   pure n
 
+-- a value as a number, or an error
 unfoldable pub numberify : ℕ → Lower ℕ
 numberify r = do
   n ← newNum (pos 0)
@@ -40,14 +44,16 @@ numberify r = do
   emit errorJump
   pure n
 
+-- a number or string register (by the opcode) as a value
 unfoldable pub makeVal : ℕ → ℕ → Lower ℕ
 makeVal op r = do
   v ← newVal
   emit (ins₂ op r v)
   pure v
 
--- ---- operators on value registers
+-- ---- binary operators on value registers l and r; each gives the result's
 
+-- And, Or: right is made truthy before left
 unfoldable pub makeLogicBinop : ℕ → ℕ → ℕ → Lower ℕ
 unfolding makeTruthy makeVal
 makeLogicBinop op l r = do
@@ -61,7 +67,7 @@ unfoldable pub guard : Bool → Lower ℕ
 guard true = emit errorJump
 guard false = pure 0
 
--- both operands as numbers, right first; of the operators Div and Rem may fail
+-- Mul, Div, Rem, Pow: right is numberified before left
 unfoldable pub makeArithBinop : ℕ → ℕ → ℕ → Lower ℕ
 unfolding numberify guard canRuntimeErr makeVal
 makeArithBinop op l r = do
@@ -71,6 +77,7 @@ makeArithBinop op l r = do
   guard (canRuntimeErr op)
   makeVal Op.ValueifyNum n
 
+-- Eq, Le, Lt
 unfoldable pub makeCmpBinop : ℕ → ℕ → ℕ → Lower ℕ
 unfolding makeVal
 makeCmpBinop op l r = do
@@ -78,6 +85,7 @@ makeCmpBinop op l r = do
   emit (ins₃ op l r n)
   makeVal Op.ValueifyNum n
 
+-- Ne: Eq, then NotNum
 unfoldable pub makeNe : ℕ → ℕ → Lower ℕ
 unfolding makeVal
 makeNe l r = do
@@ -86,12 +94,13 @@ makeNe l r = do
   emit (ins₁ Op.NotNum n)
   makeVal Op.ValueifyNum n
 
--- an operator that changes its left operand's register
+-- AddVal, SubVal: into the left operand's register, without an error jump
 unfoldable pub applyInPlace : ℕ → ℕ → ℕ → Lower ℕ
 applyInPlace op l r = do
   emit (ins₂ op l r)
   pure l
 
+-- Ge is Le with right and left exchanged, Gt so with Lt
 unfoldable pub applyBinop : Binop → ℕ → ℕ → Lower ℕ
 unfolding makeLogicBinop makeArithBinop makeCmpBinop makeNe applyInPlace
 applyBinop And l r = makeLogicBinop Op.And l r
@@ -109,6 +118,9 @@ applyBinop Lt l r = makeCmpBinop Op.Lt l r
 applyBinop Ge l r = makeCmpBinop Op.Le r l
 applyBinop Gt l r = makeCmpBinop Op.Lt r l
 
+-- ---- unary operators
+
+-- Not: of a value, without numberifying
 unfoldable pub makeNot : ℕ → Lower ℕ
 unfolding makeVal
 makeNot r = do
@@ -116,6 +128,7 @@ makeNot r = do
   emit (ins₂ Op.NotVal r n)
   makeVal Op.ValueifyNum n
 
+-- the others: of a number, in its register
 unfoldable pub applyInNumber : ℕ → ℕ → Lower ℕ
 unfolding numberify makeVal
 applyInNumber op r = do
@@ -137,10 +150,13 @@ applyUnop Asin r = applyInNumber Op.Asin r
 applyUnop Acos r = applyInNumber Op.Acos r
 applyUnop Atan r = applyInNumber Op.Atan r
 
+-- ---- Incdec, as a statement and as an expression
+
 unfoldable pub incdecOp : Bool → ℕ
 incdecOp true = Op.IncVal
 incdecOp false = Op.DecVal
 
+-- the name's own register is changed and handed back; an error jump follows
 unfoldable pub codegenIncdec : Bool → ℕ → Lower ℕ
 unfolding getVariable incdecOp
 codegenIncdec inc x = do

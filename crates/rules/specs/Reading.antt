@@ -1,4 +1,5 @@
--- What is read of a tree: its script with the instructions replaced, in the order of the lowered sections, and with nothing out of a machine.
+-- The reading of a tree: its script, with duplicates replaced as lowering replaces them, is read. Nothing is taken out of a built machine:
+-- the registers that replacement adds are numbered in the order of the lowered sections, which the script alone tells.
 use mathlib.Core.List.{List, [], _∷_}
 use Prim.Native.Nat.{ℕ}
 use lib.ListN.{length}
@@ -11,7 +12,9 @@ use Rattle.rules.specs.Script.{Stmts, nil, plain, goto, ite, Script}
 use Rattle.rules.specs.Walk.{Trace}
 use Rattle.rules.specs.ReadScript.{readScript}
 
--- all statements of a list; p is the pool's length
+-- ---- replacement in a script; p is the pool's length
+
+-- all statements of a list, in the order of their sections
 abbrev pub repAll : ℕ → Regs → Stmts → Stmts × Regs
 repAll p r nil = (nil, r)
 repAll p r (plain o s) =
@@ -29,13 +32,14 @@ repAll p r (ite o c t f s) =
     let y = repAll p (b .1) s in
     (ite (x .0) c (a .0) (b .0) (y .0), y .1)
 
--- the first statement's own instructions; all the others
+-- the first statement's own instructions, which stand in the line's first section
 abbrev pub repFirst : ℕ → Regs → Stmts → Stmts × Regs
 repFirst p r nil = (nil, r)
 repFirst p r (plain o s) = let x = replaceCode p r o in (plain (x .0) s, x .1)
 repFirst p r (goto o k s) = let x = replaceCode p r o in (goto (x .0) k s, x .1)
 repFirst p r (ite o c t f s) = let x = replaceCode p r o in (ite (x .0) c t f s, x .1)
 
+-- all the others
 abbrev pub repRest : ℕ → Regs → Stmts → Stmts × Regs
 repRest p r nil = (nil, r)
 repRest p r (plain o s) = let y = repAll p r s in (plain o (y .0), y .1)
@@ -46,6 +50,7 @@ repRest p r (ite o c t f s) =
     let y = repAll p (b .1) s in
     (ite o c (a .0) (b .0) (y .0), y .1)
 
+-- the lines' first statements
 abbrev pub firsts : ℕ → Regs → Script → Script × Regs
 firsts p r [] = ([], r)
 firsts p r (s ∷ t) =
@@ -53,6 +58,7 @@ firsts p r (s ∷ t) =
     let y = firsts p (x .1) t in
     (x .0 ∷ y .0, y .1)
 
+-- the others, line by line
 abbrev pub rests : ℕ → Regs → Script → Script × Regs
 rests p r [] = ([], r)
 rests p r (s ∷ t) =
@@ -60,17 +66,20 @@ rests p r (s ∷ t) =
     let y = rests p (x .1) t in
     (x .0 ∷ y .0, y .1)
 
--- the first sections of all lines come first, then line by line the others
+-- the lines' first sections come before all others
 abbrev pub repScript : ℕ → Regs → Script → Script × Regs
 repScript p r t = let x = firsts p r t in rests p (x .1) (x .0)
 
--- a tree's lines with their instructions as the machine has them
+-- ---- the tree
+
+-- a tree's script, with the instructions that the machine has
 unfoldable pub script : Tree → Script
 unfolding annotate spans texts rules lookup
 script t =
     let (ss, g) = annotate t in
     repScript (length (texts (g .strings))) (record { numbers = g .numbers; strings = spans 0 (g .strings) }) ss .0
 
+-- a tree is read: k lines
 unfoldable pub reading : Tree → List ℕ → ℕ → Trace
 unfolding script
 reading t os = readScript (script t) os

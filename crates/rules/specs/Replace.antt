@@ -1,4 +1,4 @@
--- Replacement of duplicate operands: instructions whose first two fields are one register.
+-- Replacement of duplicate operands, `dup_replace_with`: of instructions whose first two fields are one register.
 use mathlib.Core.Bool.{Bool, true, false}
 use mathlib.Core.List.{List, [], _∷_, _++_}
 use Prim.Native.Nat.{ℕ, zero, suc, _+_}
@@ -11,8 +11,8 @@ use Rattle.rules.specs.Opcode as Op
 use Rattle.rules.specs.Constants.{one}
 use Rattle.rules.specs.Machine.{SectionCode, Machine}
 
--- what becomes of it: nothing happens, it goes, another opcode on the register, a copy of an added number
--- into the register (its first field) or into the result (its third), a copy of an added empty string
+-- what becomes of such an instruction: it stays; it goes; it is another opcode on the register; it is a copy of an added number into the
+-- register (its first field) or into the result (its third); it is a copy of an added empty string
 pub data Rule : Type 0 where
   stays : Rule
   goes : Rule
@@ -21,6 +21,7 @@ pub data Rule : Type 0 where
   result : ℤ → Rule
   blank : Rule
 
+-- the rules by opcode
 unfoldable pub rules : List (ℕ × Rule)
 rules =
     (Op.CopyNum, goes) ∷ (Op.CopyStr, goes) ∷ (Op.CopyVal, goes)
@@ -30,14 +31,17 @@ rules =
     ∷ (Op.Eq, result (pos one)) ∷ (Op.Le, result (pos one)) ∷ (Op.Lt, result (pos 0))
     ∷ (Op.And, turns Op.IsTruthyNum) ∷ (Op.Or, turns Op.IsTruthyNum) ∷ []
 
+-- an opcode without a rule stays
 unfoldable pub lookup : ℕ → List (ℕ × Rule) → Rule
 lookup o [] = stays
 lookup o (r ∷ rs) = elim (eqb o (r .0)) [ true ↦ r .1 | false ↦ lookup o rs ]
 
+-- without a duplicate (false) everything stays
 abbrev pub ruleFor : Bool → ℕ → Rule
 ruleFor true o = lookup o rules
 ruleFor false o = stays
 
+-- an instruction's rule
 abbrev pub ruleOf : Instruction → Rule
 ruleOf i = ruleFor (eqb (i .fst) (i .snd)) (i .op)
 
@@ -46,10 +50,11 @@ pub record Regs : Type 0 where
   pub numbers : List ℤ
   pub strings : List Span
 
+-- an added number has the next register
 abbrev pub addNumber : ℤ → Regs → Regs
 addNumber z r = record { numbers = r .numbers ++ (z ∷ []); strings = r .strings }
 
--- an empty string at the end of a pool of p characters
+-- an added string has length 0 and the pool's length p as its start
 abbrev pub addBlank : ℕ → Regs → Regs
 addBlank p r = record { numbers = r .numbers; strings = r .strings ++ (record { start = p; size = 0 } ∷ []) }
 
@@ -62,6 +67,7 @@ replaceBy p (number z) r i = (ins₂ Op.CopyNum (length (r .numbers)) (i .fst) �
 replaceBy p (result z) r i = (ins₂ Op.CopyNum (length (r .numbers)) (i .thd) ∷ [], addNumber z r)
 replaceBy p blank r i = (ins₂ Op.CopyStr (length (r .strings)) (i .fst) ∷ [], addBlank p r)
 
+-- one instruction
 abbrev pub replaceIns : ℕ → Regs → Instruction → List Instruction × Regs
 replaceIns p r i = replaceBy p (ruleOf i) r i
 
@@ -73,6 +79,7 @@ replaceCode p r (i ∷ c) =
     let y = replaceCode p (x .1) c in
     (x .0 ++ y .0, y .1)
 
+-- a section with other instructions
 abbrev pub withCode : SectionCode → List Instruction → SectionCode
 withCode s c = record { lineStart = s .lineStart; instrs = c; success = s .success }
 
@@ -84,6 +91,7 @@ replaceSections p r (s ∷ m) =
     let y = replaceSections p (x .1) m in
     (withCode s (x .0) ∷ y .0, y .1)
 
+-- a machine
 unfoldable pub replaced : Machine → Machine
 unfolding rules lookup
 replaced m =

@@ -1,4 +1,4 @@
--- A tree's lines with each statement's own instructions: what lowering takes apart, and what is read.
+-- A script: a tree's lines with each statement's own instructions. Lowering makes sections of it, and it is what the reading reads.
 use mathlib.Core.Bool.{Bool, true, false}
 use mathlib.Core.List.{List}
 use Prim.Native.Nat.{ℕ}
@@ -16,6 +16,7 @@ pub data Stmts : Type 0 where
 abbrev pub Script : Type 0
 Script = List Stmts
 
+-- is the list empty?
 abbrev pub isNil : Stmts → Bool
 isNil nil = true
 isNil (plain o s) = false

@@ -14,11 +14,11 @@ use borrow.Author.Tests.{le-leb}
 use Rattle.rules.specs.Instr.{Instruction, isJump, aimed}
 use Rattle.rules.specs.Machine.{SectionOrLine, unfixed, section, line, SectionCode, absent, isFixed, Machine}
 use Rattle.rules.specs.Script.{Stmts, nil, plain, goto, ite, Script}
-use Rattle.rules.specs.Assemble.{nextLine, orOne, width, ownCode, entry, link, condJump, condCode, inner, orEmpty, stmtSections, headOf, tailOf, lineSections, heads, tails, sectionsOf}
+use Rattle.rules.specs.Assemble.{nextLine, orOne, sectionsMade, ownCode, entry, link, condJump, condCode, inner, orEmpty, stmtSections, headOf, tailOf, lineSections, heads, tails, sectionsOf}
 use Rattle.rules.specs.Clean.{renNext, ren, keep, rank, cleanSections}
 use Rattle.rules.specs.Tables.{all}
 use Rattle.rules.specs.Operations.{fixedHere, jumpFixed, jumpsFixed, nextAhead, allAhead}
-use Rattle.walks.specs.Claim.{All}
+use Rattle.rules.specs.Demand.{All}
 use Rattle.walks.specs.Lower.{length-low, length-orEmpty, SameAs, Stands, fits-cast, fits-left, fits-right, base, line-fits, at-head, fits-tail, nextLine-lt, lower-fixed, heads-length, length-tailOf}
 use Rattle.walks.specs.Combine.{Fixed, Ready}
 use Rattle.walks.specs.Fits.{AllAt}
@@ -77,13 +77,13 @@ module _ (m : List SectionCode) (e : ℕ) (he : FixedAt m e) where
 
   ite-jumps : (o : List Instruction) (c : ℕ) (t u s : Stmts) → LowJumps t → LowJumps u → LowJumps s → LowJumps (ite o c t u s)
   ite-jumps o c t u s ht hu hs b p n k f =
-      let nf = suc n + orOne t (width t) in
-      let nj = nf + orOne u (width u) in
+      let nf = suc n + orOne t (sectionsMade t) in
+      let nj = nf + orOne u (sectionsMade u) in
       let A = orEmpty t nj (stmtSections true e (suc n) nj t) in
       let B = orEmpty u nj (stmtSections true e nf nj u) in
       let C = inner [] (link b (entry s (suc nj) k)) ∷ stmtSections b e (suc nj) k s in
-      let lA : length A ≡ orOne t (width t) = length-orEmpty t nj (stmtSections true e (suc n) nj t) (length-low true e (suc n) nj t) in
-      let lB : length B ≡ orOne u (width u) = length-orEmpty u nj (stmtSections true e nf nj u) (length-low true e nf nj u) in
+      let lA : length A ≡ orOne t (sectionsMade t) = length-orEmpty t nj (stmtSections true e (suc n) nj t) (length-low true e (suc n) nj t) in
+      let lB : length B ≡ orOne u (sectionsMade u) = length-orEmpty u nj (stmtSections true e nf nj u) (length-low true e nf nj u) in
       let fA : Stands m (suc n) (suc n) A = fits-left m (suc n) A (B ++ C) (f .1) in
       let fBC : Stands m nf nf (B ++ C) = fits-cast m (suc n + length A) nf (B ++ C) (omega arith) (fits-right m (suc n) A (B ++ C) (f .1)) in
       let fB : Stands m nf nf B = fits-left m nf B C fBC in
@@ -112,7 +112,7 @@ module _ (m : List SectionCode) (L : ℕ) where
   unfolding base
   heads-jumps i n [] h = tt
   heads-jumps i n (s ∷ t) h =
-      (head-jumps (nextLine L i) (lineSections L i n s) (subst (λ (k : ℕ). Line k n s) (omega arith) (h 0 (omega arith))), heads-jumps (suc i) (n + width s) t (λ u p. subst (λ (k : ℕ). Line k (base (n + width s) t u) (getD t u nil)) (omega arith) (h (suc u) (omega arith))))
+      (head-jumps (nextLine L i) (lineSections L i n s) (subst (λ (k : ℕ). Line k n s) (omega arith) (h 0 (omega arith))), heads-jumps (suc i) (n + sectionsMade s) t (λ u p. subst (λ (k : ℕ). Line k (base (n + sectionsMade s) t u) (getD t u nil)) (omega arith) (h (suc u) (omega arith))))
 
   tails-jumps : (i n : ℕ) (t : Script) → ((u : ℕ) → u < length t → Line (i + u) (base n t u) (getD t u nil)) → All (JumpsFixed m) (tails L i n t)
   unfolding base
@@ -120,9 +120,9 @@ module _ (m : List SectionCode) (L : ℕ) where
   tails-jumps i n (s ∷ t) h =
       all-append (JumpsFixed m)
       (tailOf (lineSections L i n s))
-      (tails L (suc i) (n + width s) t)
+      (tails L (suc i) (n + sectionsMade s) t)
       (tail-jumps (lineSections L i n s) (subst (λ (k : ℕ). Line k n s) (omega arith) (h 0 (omega arith))))
-      (tails-jumps (suc i) (n + width s) t (λ u p. subst (λ (k : ℕ). Line k (base (n + width s) t u) (getD t u nil)) (omega arith) (h (suc u) (omega arith))))
+      (tails-jumps (suc i) (n + sectionsMade s) t (λ u p. subst (λ (k : ℕ). Line k (base (n + sectionsMade s) t u) (getD t u nil)) (omega arith) (h (suc u) (omega arith))))
 
 module _ (t : Script) (pos : 0 < length t) where
   line-jumps : (u : ℕ) → u < length t → Line (sectionsOf t) (length t) u (base (length t) t u) (getD t u nil)

@@ -21,7 +21,7 @@ use Rattle.rules.specs.Clean.{renNext, cleanSections, cleaned}
 use Rattle.rules.specs.Combine.{refsNext, joined, pair, combineAt, combineFuel, combineSections, combined}
 use Rattle.rules.specs.Lowered.{Options, lowered, finished}
 use Rattle.rules.specs.Operations.{fixedHere, jumpsFixed, cleanIn, allAhead, combineIn}
-use Rattle.walks.specs.Claim.{All, Demand}
+use Rattle.rules.specs.Demand.{All, Demand}
 use Rattle.walks.specs.Clean.{rank-low}
 use Rattle.walks.specs.Combine.{true≢false, cond-hit, lt-or-le, fall-low, fall-high, Fixed, fixed-at, Ready, Pair, Came, came, Set, taken, kept, set-here, clear-at, start-at, pair-below, combine-length, combine-along, combine-keeps}
 use Rattle.walks.specs.Lower.{lower-fixed}

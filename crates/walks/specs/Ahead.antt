@@ -13,7 +13,7 @@ use borrow.Author.Tests.{le-leb}
 use Rattle.rules.specs.Instr.{Instruction}
 use Rattle.rules.specs.Machine.{SectionOrLine, unfixed, section, line, SectionCode, absent, isFixed}
 use Rattle.rules.specs.Script.{Stmts, nil, plain, goto, ite, Script}
-use Rattle.rules.specs.Assemble.{nextLine, orOne, width, ownCode, entry, link, condCode, inner, orEmpty, stmtSections, headOf, tailOf, lineSections, heads, tails, sectionsOf}
+use Rattle.rules.specs.Assemble.{nextLine, orOne, sectionsMade, ownCode, entry, link, condCode, inner, orEmpty, stmtSections, headOf, tailOf, lineSections, heads, tails, sectionsOf}
 use Rattle.rules.specs.Clean.{renNext, ren, keep, rank, cleanSections}
 use Rattle.rules.specs.Operations.{nextAhead, allAhead}
 use Rattle.walks.specs.Lower.{length-low, length-orEmpty, nextLine-lt, heads-length, length-tailOf}
@@ -50,7 +50,7 @@ module _ (L : ℕ) where
   further n n′ k h (inl p) = inl p
   further n n′ k h (inr p) = inr (omega arith)
 
-  entry-ahead : (s : Stmts) (p m k : ℕ) → p < m → (k < L) ⊎ (m + width s ≤ k) → (entry s m k < L) ⊎ (p < entry s m k)
+  entry-ahead : (s : Stmts) (p m k : ℕ) → p < m → (k < L) ⊎ (m + sectionsMade s ≤ k) → (entry s m k < L) ⊎ (p < entry s m k)
   entry-ahead nil p m k h c = further (m + 0) (suc p) k (omega arith) c
   entry-ahead (plain o s) p m k h c = inr h
   entry-ahead (goto o r s) p m k h c = inr h
@@ -62,29 +62,29 @@ module _ (L : ℕ) where
   empty-ahead (goto o r s) n k l h p = p
   empty-ahead (ite o c t f s) n k l h p = p
 
-  one-pos : (s : Stmts) → (width s ≤ orOne s (width s)) × (0 < orOne s (width s))
+  one-pos : (s : Stmts) → (sectionsMade s ≤ orOne s (sectionsMade s)) × (0 < orOne s (sectionsMade s))
   one-pos nil = (omega arith, omega arith)
   one-pos (plain o s) = (omega arith, omega arith)
   one-pos (goto o r s) = (omega arith, omega arith)
   one-pos (ite o c t f s) = (omega arith, omega arith)
 
-  low-ahead : (b : Bool) (e n k : ℕ) (s : Stmts) → (k < L) ⊎ (n + width s ≤ k) → AllAt P n (stmtSections b e n k s)
+  low-ahead : (b : Bool) (e n k : ℕ) (s : Stmts) → (k < L) ⊎ (n + sectionsMade s ≤ k) → AllAt P n (stmtSections b e n k s)
   low-ahead b e n k nil c = tt
   low-ahead b e n k (plain o s) c =
-      let c′ = further (n + suc (width s)) (suc n + width s) k (omega arith) c in
+      let c′ = further (n + suc (sectionsMade s)) (suc n + sectionsMade s) k (omega arith) c in
       (link-ahead b n (entry s (suc n) k) (entry-ahead s n (suc n) k (omega arith) c′), low-ahead b e (suc n) k s c′)
-  low-ahead b e n k (goto o r s) c = (tt, low-ahead false e (suc n) k s (further (n + suc (width s)) (suc n + width s) k (omega arith) c))
+  low-ahead b e n k (goto o r s) c = (tt, low-ahead false e (suc n) k s (further (n + suc (sectionsMade s)) (suc n + sectionsMade s) k (omega arith) c))
   low-ahead b e n k (ite o d t f s) c =
-      let nf = suc n + orOne t (width t) in
-      let nj = nf + orOne f (width f) in
+      let nf = suc n + orOne t (sectionsMade t) in
+      let nj = nf + orOne f (sectionsMade f) in
       let x = one-pos t in
       let y = one-pos f in
       let A = orEmpty t nj (stmtSections true e (suc n) nj t) in
       let B = orEmpty f nj (stmtSections true e nf nj f) in
       let C = inner [] (link b (entry s (suc nj) k)) ∷ stmtSections b e (suc nj) k s in
-      let lA : length A ≡ orOne t (width t) = length-orEmpty t nj (stmtSections true e (suc n) nj t) (length-low true e (suc n) nj t) in
-      let lB : length B ≡ orOne f (width f) = length-orEmpty f nj (stmtSections true e nf nj f) (length-low true e nf nj f) in
-      let c′ = further (n + suc (orOne t (width t) + (orOne f (width f) + suc (width s)))) (suc nj + width s) k (omega arith) c in
+      let lA : length A ≡ orOne t (sectionsMade t) = length-orEmpty t nj (stmtSections true e (suc n) nj t) (length-low true e (suc n) nj t) in
+      let lB : length B ≡ orOne f (sectionsMade f) = length-orEmpty f nj (stmtSections true e nf nj f) (length-low true e nf nj f) in
+      let c′ = further (n + suc (orOne t (sectionsMade t) + (orOne f (sectionsMade f) + suc (sectionsMade s)))) (suc nj + sectionsMade s) k (omega arith) c in
       let hC : AllAt P nj C = (link-ahead b nj (entry s (suc nj) k) (entry-ahead s nj (suc nj) k (omega arith) c′), low-ahead b e (suc nj) k s c′) in
       let hB : AllAt P nf (B ++ C) = at-append P nf B C (empty-ahead f nf nj (stmtSections true e nf nj f) (omega arith) (low-ahead true e nf nj f (inr (omega arith)))) (at-cast P nj (nf + length B) C (omega arith) hC) in
       (inr (omega arith), at-append P (suc n) A (B ++ C) (empty-ahead t (suc n) nj (stmtSections true e (suc n) nj t) (omega arith) (low-ahead true e (suc n) nj t (inr (omega arith)))) (at-cast P nf (suc n + length A) (B ++ C) (omega arith) hB))
@@ -108,7 +108,7 @@ module _ (L : ℕ) where
   heads-ahead i n (s ∷ t) h k =
       let e = nextLine L i in
       let he = nextLine-lt L i (omega arith) in
-      (head-ahead e i n (lineSections L i n s) he (omega arith) (low-ahead true e n e s (inl he)), heads-ahead (suc i) (n + width s) t (omega arith) (omega arith))
+      (head-ahead e i n (lineSections L i n s) he (omega arith) (low-ahead true e n e s (inl he)), heads-ahead (suc i) (n + sectionsMade s) t (omega arith) (omega arith))
 
   tails-ahead : (i n : ℕ) (t : Script) → i + length t ≤ L → AllAt P n (tails L i n t)
   tails-ahead i n [] h = tt
@@ -116,7 +116,7 @@ module _ (L : ℕ) where
       let e = nextLine L i in
       let he = nextLine-lt L i (omega arith) in
       let l = lineSections L i n s in
-      at-append P n (tailOf l) (tails L (suc i) (n + width s) t) (tail-ahead n l (low-ahead true e n e s (inl he))) (at-cast P (n + width s) (n + length (tailOf l)) (tails L (suc i) (n + width s) t) (omega (arith, length-tailOf l, length-low true e n e s)) (tails-ahead (suc i) (n + width s) t (omega arith)))
+      at-append P n (tailOf l) (tails L (suc i) (n + sectionsMade s) t) (tail-ahead n l (low-ahead true e n e s (inl he))) (at-cast P (n + sectionsMade s) (n + length (tailOf l)) (tails L (suc i) (n + sectionsMade s) t) (omega (arith, length-tailOf l, length-low true e n e s)) (tails-ahead (suc i) (n + sectionsMade s) t (omega arith)))
 
 lower-ahead : (t : Script) → AllAt (Fore (length t)) 0 (sectionsOf t)
 unfolding sectionsOf

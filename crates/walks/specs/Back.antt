@@ -17,7 +17,7 @@ use Rattle.rules.specs.Word.{unpack, insWord, wordIns, Run, runWord, wordRun, S
 use Rattle.rules.specs.Machine.{SectionOrLine, SectionCode, Machine}
 use Rattle.rules.specs.Tables.{Tables, Counts, fits, readSections, decode, successOf, flag, kindOf, targetOf, runOf, runWords, allCode, encode, countsOf}
 use Rattle.rules.specs.Operations.{sizeOf, estimate, holds, put, write, build}
-use Rattle.walks.specs.Claim.{All}
+use Rattle.rules.specs.Demand.{All}
 use Rattle.walks.specs.Estimate.{codeLen, code-length}
 use Rattle.walks.specs.Parsed.{refused≢ok}
 use Rattle.walks.specs.Fits.{Held, Counted, SectFit, SpanFit, AllAt, MachineFit, InTables, tables-fit, ins-back, op-small, field-small, next-back, flag-one, section-back, runs-length}

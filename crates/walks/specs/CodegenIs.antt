@@ -11,9 +11,9 @@ use lib.Seq.{set-at, getD-at}
 use Rattle.rules.specs.Instr.{Instruction}
 use Rattle.rules.specs.Machine.{SectionOrLine, unfixed, section, line, SectionCode, absent, isFixed}
 use Rattle.rules.specs.Script.{Stmts, nil, plain, goto, ite, Script, isNil}
-use Rattle.rules.specs.Assemble.{condJump, nextLine, orOne, width, ownCode, entry, link, condCode, inner, orEmpty, stmtSections, asStart, headOf, tailOf, lineSections, heads, tails, sectionsOf}
+use Rattle.rules.specs.Assemble.{condJump, nextLine, orOne, sectionsMade, ownCode, entry, link, condCode, inner, orEmpty, stmtSections, asStart, headOf, tailOf, lineSections, heads, tails, sectionsOf}
 use Rattle.walks.specs.Lower.{length-low, length-orEmpty, length-tailOf}
-use Rattle.rules.specs.Codegen.{Ends, push, withNext, withIns, setNext, addIns, setEnd, reduce, linkUp, thenDone, elseDone, thenPart, elsePart, join, gen, swap, lineDone, fixLine, genLines, codegen}
+use Rattle.walks.specs.Codegen.{Ends, push, withNext, withIns, setNext, addIns, setEnd, reduce, linkUp, thenDone, elseDone, thenPart, elsePart, join, gen, swap, lineDone, fixLine, genLines, codegen}
 
 -- ---- the table, at a place
 
@@ -59,7 +59,7 @@ ends n nil = []
 ends n (plain o s) = (n, some n) ∷ ends (suc n) s
 ends n (goto o r s) = (n, none) ∷ ends (suc n) s
 ends n (ite o c t f s) =
-    let nj = suc n + orOne t (width t) + orOne f (width f) in
+    let nj = suc n + orOne t (sectionsMade t) + orOne f (sectionsMade f) in
     (n, some nj) ∷ ends (suc nj) s
 
 reduce-none : (m : List SectionCode) (a : ℕ) (xs : List Ends) → reduce m a none xs ≡ (m, (a, none))
@@ -72,8 +72,8 @@ low-any e n k k′ nil = refl
 low-any e n k k′ (plain o s) = ap (λ (l : List SectionCode). inner (ownCode e o) unfixed ∷ l) (low-any e (suc n) k k′ s)
 low-any e n k k′ (goto o r s) = ap (λ (l : List SectionCode). inner (ownCode e o) (line r) ∷ l) (low-any e (suc n) k k′ s)
 low-any e n k k′ (ite o c t f s) =
-    let nf = suc n + orOne t (width t) in
-    let nj = nf + orOne f (width f) in
+    let nf = suc n + orOne t (sectionsMade t) in
+    let nj = nf + orOne f (sectionsMade f) in
     ap
     (
     λ (l : List SectionCode).
@@ -92,7 +92,7 @@ module _ (e : ℕ) where
       a
       (reduce (m ++ (A ++ (z ∷ stmtSections false e (suc n) 0 s))) a (some n) (ends (suc n) s))
       (λ j. A ++ (withNext z (section (entry s (suc n) j)) ∷ stmtSections true e (suc n) j s))
-      (length A + suc (width s))
+      (length A + suc (sectionsMade s))
 
   regroup : (M A T : List SectionCode) (z : SectionCode) → M ++ ((A ++ (z ∷ [])) ++ T) ≡ (M ++ A) ++ (z ∷ T)
   regroup M A T z = simp append-assoc
@@ -121,7 +121,7 @@ module _ (e : ℕ) where
       a
       (reduce (setNext (m ++ (A ++ (z ∷ (C ++ (W ∷ stmtSections false e (suc nj) 0 s))))) n (section (suc n))) a (some nj) (ends (suc nj) s))
       (λ j. A ++ (withNext z (section (suc n)) ∷ (C ++ (withNext W (section (entry s (suc nj) j)) ∷ stmtSections true e (suc nj) j s))))
-      (length A + suc (length C + suc (width s)))
+      (length A + suc (length C + suc (sectionsMade s)))
   chain-on s ih n a m A z C W nj h k =
       let z′ = withNext z (section (suc n)) in
       let R = W ∷ stmtSections false e (suc nj) 0 s in
@@ -133,8 +133,8 @@ module _ (e : ℕ) where
       (reduce (setNext (m ++ (A ++ (z ∷ (C ++ R)))) n (section (suc n))) a (some nj) (ends (suc nj) s))
       (λ j. (A ++ (z′ ∷ C)) ++ (withNext W (section (entry s (suc nj) j)) ∷ stmtSections true e (suc nj) j s))
       (λ j. A ++ (z′ ∷ (C ++ (withNext W (section (entry s (suc nj) j)) ∷ stmtSections true e (suc nj) j s))))
-      (length (A ++ (z′ ∷ C)) + suc (width s))
-      (length A + suc (length C + suc (width s)))
+      (length (A ++ (z′ ∷ C)) + suc (sectionsMade s))
+      (length A + suc (length C + suc (sectionsMade s)))
       (ap (λ (l : List SectionCode). reduce l a (some nj) (ends (suc nj) s)) (link-step m A (C ++ R) z n (section (suc n)) h ∙ ap (λ (l : List SectionCode). m ++ l) (sym (append-assoc A (z′ ∷ C) R))))
       (λ j. append-assoc A (z′ ∷ C) (withNext W (section (entry s (suc nj) j)) ∷ stmtSections true e (suc nj) j s))
       (omega arith)
@@ -142,24 +142,24 @@ module _ (e : ℕ) where
 
   -- The sections of an Ite's lists, closed.
   abbrev listT : ℕ → Stmts → Stmts → List SectionCode
-  listT n t f = let nf = suc n + orOne t (width t) in let nj = nf + orOne f (width f) in orEmpty t nj (stmtSections true e (suc n) nj t)
+  listT n t f = let nf = suc n + orOne t (sectionsMade t) in let nj = nf + orOne f (sectionsMade f) in orEmpty t nj (stmtSections true e (suc n) nj t)
 
   abbrev listF : ℕ → Stmts → Stmts → List SectionCode
-  listF n t f = let nf = suc n + orOne t (width t) in let nj = nf + orOne f (width f) in orEmpty f nj (stmtSections true e nf nj f)
+  listF n t f = let nf = suc n + orOne t (sectionsMade t) in let nj = nf + orOne f (sectionsMade f) in orEmpty f nj (stmtSections true e nf nj f)
 
   abbrev headI : ℕ → List Instruction → ℕ → Stmts → SectionCode
-  headI n o c t = inner (ownCode e o ++ condCode t c (suc n)) (section (suc n + orOne t (width t)))
+  headI n o c t = inner (ownCode e o ++ condCode t c (suc n)) (section (suc n + orOne t (sectionsMade t)))
 
   abbrev blockI : ℕ → List Instruction → ℕ → Stmts → Stmts → List SectionCode
   blockI n o c t f = headI n o c t ∷ (listT n t f ++ listF n t f)
 
-  length-T : (n : ℕ) (t f : Stmts) → length (listT n t f) ≡ orOne t (width t)
-  length-T n t f = let nj = suc n + orOne t (width t) + orOne f (width f) in length-orEmpty t nj (stmtSections true e (suc n) nj t) (length-low true e (suc n) nj t)
+  length-T : (n : ℕ) (t f : Stmts) → length (listT n t f) ≡ orOne t (sectionsMade t)
+  length-T n t f = let nj = suc n + orOne t (sectionsMade t) + orOne f (sectionsMade f) in length-orEmpty t nj (stmtSections true e (suc n) nj t) (length-low true e (suc n) nj t)
 
-  length-F : (n : ℕ) (t f : Stmts) → length (listF n t f) ≡ orOne f (width f)
-  length-F n t f = let nf = suc n + orOne t (width t) in let nj = nf + orOne f (width f) in length-orEmpty f nj (stmtSections true e nf nj f) (length-low true e nf nj f)
+  length-F : (n : ℕ) (t f : Stmts) → length (listF n t f) ≡ orOne f (sectionsMade f)
+  length-F n t f = let nf = suc n + orOne t (sectionsMade t) in let nj = nf + orOne f (sectionsMade f) in length-orEmpty f nj (stmtSections true e nf nj f) (length-low true e nf nj f)
 
-  length-I : (n : ℕ) (o : List Instruction) (c : ℕ) (t f : Stmts) → length (blockI n o c t f) ≡ suc (orOne t (width t) + orOne f (width f))
+  length-I : (n : ℕ) (o : List Instruction) (c : ℕ) (t f : Stmts) → length (blockI n o c t f) ≡ suc (orOne t (sectionsMade t) + orOne f (sectionsMade f))
   length-I n o c t f = omega (arith, length-append (listT n t f) (listF n t f), length-T n t f, length-F n t f)
 
   block-assoc : (n : ℕ) (o : List Instruction) (c : ℕ) (t f : Stmts) (R : List SectionCode) → headI n o c t ∷ (listT n t f ++ (listF n t f ++ R)) ≡ blockI n o c t f ++ R
@@ -185,8 +185,8 @@ module _ (e : ℕ) where
       (reduce (setNext (m ++ (A ++ (z ∷ stmtSections false e (suc n) 0 (plain o s)))) n (section (suc n))) a (some (suc n)) (ends (suc (suc n)) s))
       (λ j. A ++ (withNext z (section (suc n)) ∷ stmtSections true e (suc n) j (plain o s)))
       (λ j. A ++ (withNext z (section (suc n)) ∷ stmtSections true e (suc n) j (plain o s)))
-      (length A + suc (0 + suc (width s)))
-      (length A + suc (suc (width s)))
+      (length A + suc (0 + suc (sectionsMade s)))
+      (length A + suc (suc (sectionsMade s)))
       refl
       (λ j. refl)
       (omega arith)
@@ -203,7 +203,7 @@ module _ (e : ℕ) where
         len = length-append A (z′ ∷ X ∷ R) ∙ ap (λ (k : ℕ). length A + suc (suc k)) (length-low false e (suc (suc n)) 0 s);
       }
   chain (ite o c t f s) = λ n a m A z h.
-      let nj = suc (suc n) + orOne t (width t) + orOne f (width f) in
+      let nj = suc (suc n) + orOne t (sectionsMade t) + orOne f (sectionsMade f) in
       let C = blockI (suc n) o c t f in
       linked-cast
       m
@@ -212,8 +212,8 @@ module _ (e : ℕ) where
       (reduce (setNext (m ++ (A ++ (z ∷ stmtSections false e (suc n) 0 (ite o c t f s)))) n (section (suc n))) a (some nj) (ends (suc nj) s))
       (λ j. A ++ (withNext z (section (suc n)) ∷ (C ++ (inner [] (section (entry s (suc nj) j)) ∷ stmtSections true e (suc nj) j s))))
       (λ j. A ++ (withNext z (section (suc n)) ∷ stmtSections true e (suc n) j (ite o c t f s)))
-      (length A + suc (length C + suc (width s)))
-      (length A + suc (width (ite o c t f s)))
+      (length A + suc (length C + suc (sectionsMade s)))
+      (length A + suc (sectionsMade (ite o c t f s)))
       (
       ap
       (λ (l : List SectionCode). reduce (setNext (m ++ (A ++ (z ∷ l))) n (section (suc n))) a (some nj) (ends (suc nj) s))
@@ -229,7 +229,7 @@ module _ (e : ℕ) where
   sect b c x = record { lineStart = b; instrs = c; success = x }
 
   abbrev First : Stmts → Type 0
-  First s = (b : Bool) (n : ℕ) (m : List SectionCode) → length m ≡ n → LinkedUp m n (linkUp (m ++ flag b (stmtSections false e n 0 s)) (ends n s)) (λ j. flag b (stmtSections true e n j s)) (width s)
+  First s = (b : Bool) (n : ℕ) (m : List SectionCode) → length m ≡ n → LinkedUp m n (linkUp (m ++ flag b (stmtSections false e n 0 s)) (ends n s)) (λ j. flag b (stmtSections true e n j s)) (sectionsMade s)
 
   first-plain : (o : List Instruction) (s : Stmts) → First (plain o s)
   unfolding ends
@@ -240,7 +240,7 @@ module _ (e : ℕ) where
       n
       (reduce (m ++ (X ∷ stmtSections false e (suc n) 0 s)) n (some n) (ends (suc n) s))
       (λ j. flag b (stmtSections true e n j (plain o s)))
-      (suc (width s))
+      (suc (sectionsMade s))
       (
       linked-cast
       m
@@ -249,8 +249,8 @@ module _ (e : ℕ) where
       (reduce (m ++ (X ∷ stmtSections false e (suc n) 0 s)) n (some n) (ends (suc n) s))
       (λ j. flag b (stmtSections true e n j (plain o s)))
       (λ j. flag b (stmtSections true e n j (plain o s)))
-      (0 + suc (width s))
-      (suc (width s))
+      (0 + suc (sectionsMade s))
+      (suc (sectionsMade s))
       refl
       (λ j. refl)
       (omega arith)
@@ -273,18 +273,18 @@ module _ (e : ℕ) where
   first-ite : (o : List Instruction) (c : ℕ) (t f s : Stmts) → First (ite o c t f s)
   unfolding ends
   first-ite o c t f s b n m h =
-      let nj = suc n + orOne t (width t) + orOne f (width f) in
-      let H = sect b (ownCode e o ++ condCode t c (suc n)) (section (suc n + orOne t (width t))) in
+      let nj = suc n + orOne t (sectionsMade t) + orOne f (sectionsMade f) in
+      let H = sect b (ownCode e o ++ condCode t c (suc n)) (section (suc n + orOne t (sectionsMade t))) in
       let TF = listT n t f ++ listF n t f in
       let J = inner [] unfixed in
       let R = stmtSections false e (suc nj) 0 s in
-      let lTF : length TF ≡ orOne t (width t) + orOne f (width f) = omega (arith, length-I n o c t f) in
+      let lTF : length TF ≡ orOne t (sectionsMade t) + orOne f (sectionsMade f) = omega (arith, length-I n o c t f) in
       linked-up
       m
       n
       (reduce (m ++ (H ∷ (listT n t f ++ (listF n t f ++ (J ∷ R))))) n (some nj) (ends (suc nj) s))
       (λ j. flag b (stmtSections true e n j (ite o c t f s)))
-      (width (ite o c t f s))
+      (sectionsMade (ite o c t f s))
       (
       linked-cast
       m
@@ -293,8 +293,8 @@ module _ (e : ℕ) where
       (reduce (m ++ (H ∷ (listT n t f ++ (listF n t f ++ (J ∷ R))))) n (some nj) (ends (suc nj) s))
       (λ j. (H ∷ TF) ++ (inner [] (section (entry s (suc nj) j)) ∷ stmtSections true e (suc nj) j s))
       (λ j. flag b (stmtSections true e n j (ite o c t f s)))
-      (length (H ∷ TF) + suc (width s))
-      (width (ite o c t f s))
+      (length (H ∷ TF) + suc (sectionsMade s))
+      (sectionsMade (ite o c t f s))
       (ap (λ (l : List SectionCode). reduce (m ++ (H ∷ l)) n (some nj) (ends (suc nj) s)) (sym (append-assoc (listT n t f) (listF n t f) (J ∷ R))))
       (λ j. ap (λ (l : List SectionCode). H ∷ l) (append-assoc (listT n t f) (listF n t f) (inner [] (section (entry s (suc nj) j)) ∷ stmtSections true e (suc nj) j s)))
       (omega arith)
@@ -329,7 +329,7 @@ module _ (e : ℕ) where
         (sect b (ownCode e o ++ condCode t c (suc n)) unfixed)
         []
         (λ j. orEmpty t j (stmtSections true e (suc n) j t))
-        (orOne t (width t))
+        (orOne t (sectionsMade t))
 
     l₁ : length m₁ ≡ suc n
     l₁ = omega (arith, length-append m (X₀ ∷ []))
@@ -354,7 +354,7 @@ module _ (e : ℕ) where
         }
 
     then-some : (t : Stmts) → First t
-        → Part m (suc n) (thenPart n c (m₁ ++ stmtSections false e (suc n) 0 t, ends (suc n) t)) (sect b (ownCode e o ++ (condJump (suc n) c ∷ [])) unfixed) [] (λ j. stmtSections true e (suc n) j t) (width t)
+        → Part m (suc n) (thenPart n c (m₁ ++ stmtSections false e (suc n) 0 t, ends (suc n) t)) (sect b (ownCode e o ++ (condJump (suc n) c ∷ [])) unfixed) [] (λ j. stmtSections true e (suc n) j t) (sectionsMade t)
     then-some t h =
         let i = condJump (suc n) c in
         let u = h false (suc n) m₁ l₁ in
@@ -380,7 +380,7 @@ module _ (e : ℕ) where
       m₂ = m ++ (X ∷ W)
 
       abbrev Else : Stmts → Type 0
-      Else f = Part m nf (elsePart n (m₂ ++ stmtSections false e nf 0 f, ends nf f)) (withNext X (section nf)) W (λ j. orEmpty f j (stmtSections true e nf j f)) (orOne f (width f))
+      Else f = Part m nf (elsePart n (m₂ ++ stmtSections false e nf 0 f, ends nf f)) (withNext X (section nf)) W (λ j. orEmpty f j (stmtSections true e nf j f)) (orOne f (sectionsMade f))
 
       into : (Z : List SectionCode) → setNext (m₂ ++ Z) n (section nf) ≡ m ++ (withNext X (section nf) ∷ (W ++ Z))
       into Z = ap (λ (l : List SectionCode). setNext l n (section nf)) (append-assoc m (X ∷ W) Z) ∙ set-next m (W ++ Z) X n (section nf) refl
@@ -399,7 +399,7 @@ module _ (e : ℕ) where
             len = refl;
           }
 
-      else-some : (f : Stmts) → First f → Part m nf (elsePart n (m₂ ++ stmtSections false e nf 0 f, ends nf f)) (withNext X (section nf)) W (λ j. stmtSections true e nf j f) (width f)
+      else-some : (f : Stmts) → First f → Part m nf (elsePart n (m₂ ++ stmtSections false e nf 0 f, ends nf f)) (withNext X (section nf)) W (λ j. stmtSections true e nf j f) (sectionsMade f)
       else-some f h =
           let u = h false nf m₂ hf in
           record {
@@ -477,8 +477,8 @@ module _ (e : ℕ) where
   unfolding ends
   gen-ite o c t f s ht hf hs b m =
       let n = length m in
-      let nf = suc n + orOne t (width t) in
-      let nj = nf + orOne f (width f) in
+      let nf = suc n + orOne t (sectionsMade t) in
+      let nj = nf + orOne f (sectionsMade f) in
       let pt = then-part b o c m t in
       let X = sect b (ownCode e o ++ condCode t c (suc n)) unfixed in
       let Y = pt .Y in
@@ -488,8 +488,8 @@ module _ (e : ℕ) where
       let Z = pf .Y in
       let FT : ℕ → List SectionCode = λ j. orEmpty t j (stmtSections true e (suc n) j t) in
       let FF : ℕ → List SectionCode = λ j. orEmpty f j (stmtSections true e nf j f) in
-      let lT : length (FT nj) ≡ orOne t (width t) = length-T n t f in
-      let lF : length (FF nj) ≡ orOne f (width f) = length-F n t f in
+      let lT : length (FT nj) ≡ orOne t (sectionsMade t) = length-T n t f in
+      let lF : length (FF nj) ≡ orOne f (sectionsMade f) = length-F n t f in
       let lZ : length (m ++ (X′ ∷ (Y ++ Z))) ≡ nj = omega (arith, length-append m (X′ ∷ (Y ++ Z)), length-append Y Z, pt .len, pf .len) in
       let gT = thenPart n c (gen false e (push m b (ownCode e o) unfixed) t) in
       let eT : gT ≡ (m ++ (X ∷ Y), pt .en) = ap (thenPart n c) (gen-at t ht (push m b (ownCode e o) unfixed) (suc n) (l₁ b o c m)) ∙ pt .is in
@@ -597,7 +597,7 @@ module _ (e : ℕ) (H R : List SectionCode) where
   one-line (goto o r s) = let n = length m₀ in line-some (goto o r s) (first-goto e o r s) (inner (ownCode e o) (line r)) (stmtSections false e (suc n) e s) refl refl
   one-line (ite o c t f s) =
       let n = length m₀ in
-      let nj = suc n + orOne t (width t) + orOne f (width f) in
+      let nj = suc n + orOne t (sectionsMade t) + orOne f (sectionsMade f) in
       line-some
       (ite o c t f s)
       (first-ite e o c t f s)
@@ -618,8 +618,8 @@ lines-is L (s ∷ ss) i n H T hi hn =
     let tl = tailOf l in
     let H′ = H ++ (hd ∷ []) in
     let T′ = T ++ tl in
-    let n′ = n + width s in
-    let lt : length tl ≡ width s = length-tailOf l ∙ length-low true e n e s in
+    let n′ = n + sectionsMade s in
+    let lt : length tl ≡ sectionsMade s = length-tailOf l ∙ length-low true e n e s in
     let step : oneLine i e M s ≡ H′ ++ (replicate (length ss) absent ++ T′) =
     ap (λ (k : ℕ). oneLine k e M s) (sym hi)
     ∙ (one-line e H R s

@@ -16,7 +16,8 @@ use Rattle.rules.specs.Walk.{Ask, Halt, ask, Step, to, done, End, more, over, L
 use Rattle.rules.specs.Script.{Stmts, nil, plain, goto, ite, Script}
 use Rattle.rules.specs.Assemble.{condJump, nextLine}
 use Rattle.rules.specs.ReadScript.{Out, behind, erred, gone, stop, thenOn, andThen, readOwn, readGoto, readIf, readCond, read, onward, stepLine, readScript, readIns}
-use Rattle.walks.specs.Claim.{Walk, Meets, Fewer, SameWalk, Agree}
+use Rattle.rules.specs.Demand.{Walk, Meets, Fewer, SameFirst}
+use Rattle.walks.specs.Claim.{Alike}
 use Rattle.walks.specs.Combine.{lt-or-le}
 use Rattle.walks.specs.Lower.{nextLine-lt}
 
@@ -308,10 +309,10 @@ module _ (t : Script) where
 
 -- ---- both meet the same first n, or both fewer
 
-pub agree : (t : Script) → 0 < length t → (os : List ℕ) (v : Walk) → SameWalk v (readScript t os) → (n : ℕ) → Agree v (readScript t os) n
+pub agree : (t : Script) → 0 < length t → (os : List ℕ) (v : Walk) → Alike v (readScript t os) → (n : ℕ) → SameFirst v (readScript t os) n
 agree t pos os v same n = go (told t pos n os)
   where
-    go : Told t n (0, os) → Agree v (readScript t os) n
+    go : Told t n (0, os) → SameFirst v (readScript t os) n
     go (inl (k, h)) =
         let l = take n (readScript t os k .0) in
         let m : Meets (readScript t os) n l = (k, length-take-le n (readScript t os k .0) h, refl) in

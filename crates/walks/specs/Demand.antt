@@ -6,7 +6,7 @@ use native.Mathlib.Omega.{arith}
 use lib.ListN.{length, getD}
 use Rattle.rules.specs.Instr.{Instruction}
 use Rattle.rules.specs.Tree.{Tree, ofLines}
-use Rattle.rules.specs.Machine.{SectionCode, absent, Machine}
+use Rattle.rules.specs.Machine.{SectionOrLine, unfixed, section, line, SectionCode, absent, Machine}
 use Rattle.rules.specs.Tables.{Counts, countsOf}
 use Rattle.rules.specs.Script.{Script}
 use Rattle.rules.specs.CodegenData.{CodegenData}
@@ -17,8 +17,9 @@ use Rattle.rules.specs.Reading.{repScript, script, reading}
 use Rattle.rules.specs.Clean.{cleanSections, cleaned}
 use Rattle.rules.specs.Combine.{combineSections, combined}
 use Rattle.rules.specs.Lowered.{Options, spans, texts, assemble, lowered, finished}
-use Rattle.rules.specs.Walk.{walk, enters}
-use Rattle.walks.specs.Claim.{All, Demand3, Demand, Registers, SectGood, NextGood, CodeGood, GoodWhole}
+use Rattle.rules.specs.Walk.{walk, enters, entered}
+use Rattle.rules.specs.Demand.{All, Demand, RegistersBelow, GotoBelow}
+use Rattle.walks.specs.Claim.{Demand3, SectGood, NextGood, CodeGood, GoodWhole}
 use Rattle.walks.specs.Replace.{lower-rep, length-rep}
 use Rattle.walks.specs.Room.{Room, roomOf, Went}
 use Rattle.walks.specs.Own.{Whole, whole-grows, MadeAll, annotate-made}
@@ -31,6 +32,11 @@ use Rattle.walks.specs.Parsed.{some-line}
 all-map : {A : Type 0} (P Q : A → Type 0) → ((a : A) → P a → Q a) → (l : List A) → All P l → All Q l
 all-map P Q h [] p = tt
 all-map P Q h (a ∷ l) p = (h a (p .0), all-map P Q h l (p .1))
+
+goto-below : (u : Counts) (x : SectionOrLine) → NextGood (λ r. r < u .numbers) x → GotoBelow u x
+goto-below u unfixed h = h
+goto-below u (section t) h = h
+goto-below u (line r) h = h
 
 module _ (o : Options) (t : Tree) where
   ss : Script
@@ -77,7 +83,7 @@ module _ (o : Options) (t : Tree) where
       }
 
   -- Whatever has that room, the script's instructions and gotos name registers of it.
-  pub good-for : (w : Counts) → Room (roomOf (annotate t .1)) w → All (GoodWhole (Registers w) (λ r. r < w .numbers)) (script t)
+  pub good-for : (w : Counts) → Room (roomOf (annotate t .1)) w → All (GoodWhole (RegistersBelow w) (λ r. r < w .numbers)) (script t)
   unfolding script ss g pl σ
   good-for w r = script-good w pl ss (all-map (Whole (roomOf g)) (Whole w) (whole-grows (roomOf g) w r) ss (annotate-made t .whole)) σ
 
@@ -102,22 +108,22 @@ module _ (o : Options) (t : Tree) where
     unfolding ss g
     whole = all-map (Whole (roomOf g)) (Whole u) (whole-grows (roomOf g) u u-room) ss (annotate-made t .whole)
 
-    good : All (GoodWhole (Registers u) (λ r. r < u .numbers)) (repScript pl σ ss .0)
+    good : All (GoodWhole (RegistersBelow u) (λ r. r < u .numbers)) (repScript pl σ ss .0)
     good = script-good u pl ss whole σ
 
     of-tree : Demand o t os
-    unfolding u countsOf finished walk reading script ss g pl σ
+    unfolding u countsOf finished walk entered reading script ss g pl σ
     of-tree =
         record {
-          agree = heart .agree;
           same = heart .same;
+          found = heart .found;
           sections = heart .sections;
-          registers = λ k. heart .registers (Registers u) (λ r. r < u .numbers) (tree-good (Registers u) (λ r. r < u .numbers) (repScript pl σ ss .0) good) k .0;
+          registers = λ k. heart .registers (RegistersBelow u) (λ r. r < u .numbers) (tree-good (RegistersBelow u) (λ r. r < u .numbers) (repScript pl σ ss .0) good) k .0;
           gotos = λ k.
               let m = finished o t in
-              let P : ℕ → Type 0 = λ v. SectGood (Registers u) (λ r. r < u .numbers) (getD (m .sections) v absent) in
-              let Q : ℕ → Type 0 = λ v. NextGood (λ r. r < u .numbers) (getD (m .sections) v absent .success) in
-              all-map P Q (λ v h. h .1) (enters (m .sections) (m .lines) k (0, os)) (heart .entered (Registers u) (λ r. r < u .numbers) good k);
+              let P : ℕ → Type 0 = λ v. SectGood (RegistersBelow u) (λ r. r < u .numbers) (getD (m .sections) v absent) in
+              let Q : ℕ → Type 0 = λ v. GotoBelow u (getD (m .sections) v absent .success) in
+              all-map P Q (λ v h. goto-below u (getD (m .sections) v absent .success) (h .1)) (enters (m .sections) (m .lines) k (0, os)) (heart .entered (RegistersBelow u) (λ r. r < u .numbers) good k);
           behindGoto = heart .behindGoto;
           noPair = heart .noPair;
         }

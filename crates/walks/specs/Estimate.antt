@@ -14,11 +14,11 @@ use Rattle.rules.specs.Tables.{Counts, countsOf, allCode}
 use Rattle.rules.specs.Script.{Stmts, nil, plain, goto, ite, Script}
 use Rattle.rules.specs.CodegenData.{CodegenData}
 use Rattle.rules.specs.Annotate.{annotate, fresh}
-use Rattle.rules.specs.Assemble.{nextLine, orOne, width, ownCode, entry, link, condCode, inner, orEmpty, stmtSections, headOf, tailOf, lineSections, heads, tails, sectionsOf}
+use Rattle.rules.specs.Assemble.{nextLine, orOne, sectionsMade, ownCode, entry, link, condCode, inner, orEmpty, stmtSections, headOf, tailOf, lineSections, heads, tails, sectionsOf}
 use Rattle.rules.specs.Replace.{Rule, stays, goes, turns, number, result, blank, ruleOf, Regs, replaceBy, replaceIns, replaceCode, replaceSections, replaced}
 use Rattle.rules.specs.Lowered.{Options, nameWords, spans, texts, assemble, lowered}
 use Rattle.rules.specs.Operations.{Size, sizeOf, estimate}
-use Rattle.walks.specs.Claim.{All}
+use Rattle.rules.specs.Demand.{All}
 use Rattle.walks.specs.Lower.{length-low, length-tailOf, heads-length}
 use Rattle.walks.specs.Room.{Went}
 use Rattle.walks.specs.Own.{codeOf, sizes, codes, MadeAll, annotate-made}
@@ -30,7 +30,7 @@ tails-length : (L i n : ℕ) (t : Script) → length (tails L i n t) ≡ sizes t
 tails-length L i n [] = refl
 tails-length L i n (s ∷ t) =
     let l = lineSections L i n s in
-    omega (arith, length-append (tailOf l) (tails L (suc i) (n + width s) t), length-tailOf l, length-low true (nextLine L i) n (nextLine L i) s, tails-length L (suc i) (n + width s) t)
+    omega (arith, length-append (tailOf l) (tails L (suc i) (n + sectionsMade s) t), length-tailOf l, length-low true (nextLine L i) n (nextLine L i) s, tails-length L (suc i) (n + sectionsMade s) t)
 
 pub sections-length : (t : Script) → length (sectionsOf t) ≡ length t + sizes t
 unfolding sectionsOf
@@ -77,8 +77,8 @@ low-len b e n k nil = omega arith
 low-len b e n k (plain o s) = omega (arith, own-len e o, low-len b e (suc n) k s)
 low-len b e n k (goto o r s) = omega (arith, own-len e o, low-len false e (suc n) k s)
 low-len b e n k (ite o c t f s) =
-    let nf = suc n + orOne t (width t) in
-    let nj = nf + orOne f (width f) in
+    let nf = suc n + orOne t (sectionsMade t) in
+    let nj = nf + orOne f (sectionsMade f) in
     let lt = stmtSections true e (suc n) nj t in
     let lf = stmtSections true e nf nj f in
     let r = inner [] (link b (entry s (suc nj) k)) ∷ stmtSections b e (suc nj) k s in
@@ -105,7 +105,7 @@ lines-len L i n [] = omega arith
 lines-len L i n (s ∷ t) =
     let l = lineSections L i n s in
     let e = nextLine L i in
-    omega (arith, line-len e l, len-append (tailOf l) (tails L (suc i) (n + width s) t), low-len true e n e s, lines-len L (suc i) (n + width s) t)
+    omega (arith, line-len e l, len-append (tailOf l) (tails L (suc i) (n + sectionsMade s) t), low-len true e n e s, lines-len L (suc i) (n + sectionsMade s) t)
 
 sections-len : (t : Script) → codeLen (sectionsOf t) ≤ codes t
 unfolding sectionsOf

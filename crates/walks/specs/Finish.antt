@@ -4,7 +4,8 @@ use mathlib.Core.Logic.{inl}
 use mathlib.Core.List.{List, map}
 use mathlib.Core.Option.{none}
 use Prim.Native.Nat.{ℕ, _<_}
-use lib.ListN.{length, getD}
+use native.Mathlib.Omega.{arith}
+use lib.ListN.{length, getD, length-map}
 use Rattle.rules.specs.Machine.{absent, SectionCode}
 use Rattle.rules.specs.Walk.{stepSection, walkSections, enters}
 use Rattle.rules.specs.Clean.{cleanSections}
@@ -13,11 +14,12 @@ use Rattle.rules.specs.Script.{Script}
 use Rattle.rules.specs.Assemble.{sectionsOf}
 use Rattle.rules.specs.ReadScript.{readScript}
 use Rattle.walks.specs.Words.{finish}
-use Rattle.walks.specs.Claim.{SameWalk, Safe, prune, SectGood, Demand3}
+use Rattle.rules.specs.Demand.{SameWalk, prune}
+use Rattle.walks.specs.Claim.{Alike, Safe, SectGood, Demand3}
 use Rattle.walks.specs.Walks.{Within, within-trans, covers-within, covers-back, within-safe, same-walk}
 use Rattle.walks.specs.Combine.{Ready, Kept, combine-keeps, combine-ends}
 use Rattle.walks.specs.Clean.{clean-same, clean-ready}
-use Rattle.rules.specs.Codegen.{codegen}
+use Rattle.walks.specs.Codegen.{codegen}
 use Rattle.walks.specs.CodegenIs.{codegen-is}
 use Rattle.rules.specs.Replace.{Regs, replaceSections}
 use Rattle.rules.specs.Reading.{repScript}
@@ -65,7 +67,7 @@ module _ (t : Script) (pos : 0 < length t) where
     tree-to-fin : Within (readScript t os) (walkSections (finish t) (length t) os)
     tree-to-fin = within-trans (readScript t os) (walkSections (cleanSections (sectionsOf t)) (length t) os) (walkSections (finish t) (length t) os) tree-to-clean (kept .there os)
 
-    same : SameWalk (walkSections (finish t) (length t) os) (readScript t os)
+    same : Alike (walkSections (finish t) (length t) os) (readScript t os)
     same = same-walk (walkSections (finish t) (length t) os) (readScript t os) fin-to-tree tree-to-fin
 
     fin-safe : Safe (walkSections (finish t) (length t) os)
@@ -77,15 +79,18 @@ module _ (t : Script) (pos : 0 < length t) where
     pruned-to-fin : Within (readScript (map prune t) os) (walkSections (finish t) (length t) os)
     pruned-to-fin = within-trans (readScript (map prune t) os) (readScript t os) (walkSections (finish t) (length t) os) (λ k. (k, inl (sym (run-prune t k (0, os))))) tree-to-fin
 
+    same-pruned : Alike (walkSections (finish t) (length t) os) (readScript (map prune t) os)
+    same-pruned = same-walk (walkSections (finish t) (length t) os) (readScript (map prune t) os) fin-to-pruned pruned-to-fin
+
   pub demand3 : (os : List ℕ) → Demand3 (length t) t (finish t) os
   demand3 os =
       record {
-        agree = agree t pos os (walkSections (finish t) (length t) os) (same os);
-        same = same os;
+        same = record { firsts = agree t pos os (walkSections (finish t) (length t) os) (same os); stops = same os .stops };
+        found = fin-safe os;
         sections = safe-enters (finish t) (length t) os (fin-safe os);
         entered = λ P G good k. everywhere (λ u. SectGood P G (getD (finish t) u absent)) (λ u. getD-good P G (finish t) (finish-good P G t good) u) (enters (finish t) (length t) k (0, os));
         registers = λ P G good. within-good P G t good os (walkSections (finish t) (length t) os) (fin-to-tree os);
-        behindGoto = same-walk (walkSections (finish t) (length t) os) (readScript (map prune t) os) (fin-to-pruned os) (pruned-to-fin os);
+        behindGoto = record { firsts = agree (map prune t) (omega (arith, length-map t prune)) os (walkSections (finish t) (length t) os) (same-pruned os); stops = same-pruned os .stops };
         noPair = finished;
       }
 

@@ -15,7 +15,7 @@ use Rattle.rules.specs.Word.{unpack, insWord, wordIns, insSpare, Run, runWord, 
 use Rattle.rules.specs.Constants.{instrLayout, sectionLayout, stringLayout, mark}
 use Rattle.rules.specs.Machine.{SectionOrLine, unfixed, section, line, SectionCode, isFixed, Machine}
 use Rattle.rules.specs.Tables.{Tables, Counts, all, fieldFits, insFits, successOf, successFits, startFits, runsFit, spanFits, nameFits, countFits, countsFit, wordsFit, fits, flag, kindOf, targetOf, runOf, runWords, allCode, encode, countsOf}
-use Rattle.walks.specs.Claim.{All, FieldBelow, FieldsBelow, Registers}
+use Rattle.rules.specs.Demand.{All, FieldBelow, FieldsBelow, RegistersBelow}
 use Rattle.walks.specs.Estimate.{codeLen, code-length}
 
 -- ---- tests

@@ -11,7 +11,8 @@ use borrow.Author.Tests.{leb-true}
 use Rattle.rules.specs.Instr.{Row, Instruction, isJump, shown, Kind, unused, num, str, val, place, table, kinds}
 use Rattle.rules.specs.Machine.{SectionOrLine, unfixed, section, line, SectionCode, absent, Machine}
 use Rattle.rules.specs.Tables.{Counts, countsOf, all, allCode, nameFits}
-use Rattle.walks.specs.Claim.{All, FieldBelow, FieldsBelow, Registers, CodeGood, NextGood, SectGood}
+use Rattle.rules.specs.Demand.{All, FieldBelow, FieldsBelow, RegistersBelow}
+use Rattle.walks.specs.Claim.{CodeGood, NextGood, SectGood}
 use Rattle.walks.specs.Jumps.{aimed-other}
 use Rattle.walks.specs.Combine.{true≢false}
 use Rattle.walks.specs.Fits.{row-of, isPlace, Holds, Held, Counted, SectFit, NextFit, SpanFit, MachineFit}
@@ -79,12 +80,12 @@ held-other u i (some k) n f =
     let t = three (not (isPlace (k .0))) (not (isPlace (k .1))) (not (isPlace (k .2))) (n k refl) in
     ((f .0, λ q. absurd (not-place (k .0) (t .0) q)), (f .1, λ q. absurd (not-place (k .1) (t .1) q)), (f .2, λ q. absurd (not-place (k .2) (t .2) q)))
 
-held : (u : Counts) (i : Instruction) → Registers u (shown i) → JumpBelow (u .sections) i → Held u (kinds (i .op)) i
+held : (u : Counts) (i : Instruction) → RegistersBelow u (shown i) → JumpBelow (u .sections) i → Held u (kinds (i .op)) i
 held u i r j = go (isJump i) refl
   where
     go : (b : Bool) → isJump i ≡ b → Held u (kinds (i .op)) i
     go true e = held-jump u (i .op) (shown i .fst) (i .fst) (i .snd) (i .thd) (leb-true (i .op) 1 e) r (j e)
-    go false e = held-other u i (kinds (i .op)) (no-place (i .op) e) (subst (Registers u) (aimed-other 0 i e) r)
+    go false e = held-other u i (kinds (i .op)) (no-place (i .op) e) (subst (RegistersBelow u) (aimed-other 0 i e) r)
 
 -- ---- sections
 
@@ -97,9 +98,9 @@ module _ (u : Counts) where
   H i = Held u (kinds (i .op)) i
 
   abbrev Sound : SectionCode → Type 0
-  Sound s = SectGood (Registers u) (λ r. r < u .numbers) s
+  Sound s = SectGood (RegistersBelow u) (λ r. r < u .numbers) s
 
-  code-held : (c : List Instruction) → CodeGood (Registers u) c → All (JumpBelow (u .sections)) c → All H c
+  code-held : (c : List Instruction) → CodeGood (RegistersBelow u) c → All (JumpBelow (u .sections)) c → All H c
   code-held [] g a = tt
   code-held (i ∷ c) g a = (held u i (g .0) (a .0), code-held c (g .1) (a .1))
 
@@ -115,7 +116,7 @@ module _ (u : Counts) where
 
 -- What is known of a machine's sections.
 pub record SectsFit (L : ℕ) (u : Counts) (ss : List SectionCode) : Type 0 where
-  pub good : All (SectGood (Registers u) (λ r. r < u .numbers)) ss
+  pub good : All (SectGood (RegistersBelow u) (λ r. r < u .numbers)) ss
   pub aims : All (Aims (length ss)) ss
   pub starts : (t : ℕ) → t < L → getD ss t absent .lineStart ≡ true
   pub later : (t : ℕ) → L ≤ t → t < length ss → Loose (getD ss t absent)
@@ -129,7 +130,7 @@ machine-fit m c f sp nm =
       counted = c;
       instrs = all-held u ss (f .good) (f .aims);
       sects = numbered (SectFit u) 0 ss (λ t p.
-          let g = all-at (SectGood (Registers u) (λ r. r < u .numbers)) absent ss (f .good) t p in
+          let g = all-at (SectGood (RegistersBelow u) (λ r. r < u .numbers)) absent ss (f .good) t p in
           let a = all-at (Aims (length ss)) absent ss (f .aims) t p in
           record {
             success = next-fit u (getD ss t absent .success) (g .1) (a .1);

@@ -13,7 +13,7 @@ use Rattle.rules.specs.Tree as Tree
 use Rattle.rules.specs.Constants.{mostDepth}
 use Rattle.rules.specs.Parse.{Reader, At, pure, refuse, _>>=_, demand, bits, begin, many, block, operator, assignops, nameOf}
 use Rattle.rules.specs.Parse.{gotoOf, iteOf, stepOf, assignOf, stmtKinds, expr, stmt, known, name, names, fill, lineBlock, body, file, parse}
-use Rattle.walks.specs.Claim.{All}
+use Rattle.rules.specs.Demand.{All}
 use Rattle.walks.specs.Parsed.{refused≢ok, Passed, passed, demanded, many-length, Parsed, parsed, some-line}
 use Rattle.walks.specs.Limits.{Reads, reads-seq, reads-as, reads-here, pure-is, BitsRead, bits-read, bits-reads, demand-reads, one, begin-reads, operator-reads, name-reads, sum, many-reads, oneChar, char-reads, sum-chars, ShortExpr, ReadExpr, Sound, none-left, expr-read}
 

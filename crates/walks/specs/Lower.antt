@@ -14,7 +14,7 @@ use Rattle.rules.specs.Instr.{Instruction, isJump, shown, aimed}
 use Rattle.rules.specs.Machine.{SectionOrLine, unfixed, section, line, SectionCode, absent, isFixed}
 use Rattle.rules.specs.Walk.{Ask, atJump, atGoto, Halt, ask, lost, Step, to, done, End, more, over, Leg, pre, onto, run, State, Trace, follow, inside, through, enter, stepSection, walkSections, across}
 use Rattle.rules.specs.Script.{Stmts, nil, plain, goto, ite, Script, isNil}
-use Rattle.rules.specs.Assemble.{condJump, nextLine, orOne, width, ownCode, entry, link, condCode, inner, orEmpty, stmtSections, asStart, headOf, tailOf, lineSections, heads, tails, sectionsOf}
+use Rattle.rules.specs.Assemble.{condJump, nextLine, orOne, sectionsMade, ownCode, entry, link, condCode, inner, orEmpty, stmtSections, asStart, headOf, tailOf, lineSections, heads, tails, sectionsOf}
 use Rattle.rules.specs.ReadScript.{Out, behind, erred, gone, stop, thenOn, andThen, readOwn, readGoto, readIf, readCond, read, onward, stepLine, readScript, readIns}
 use Rattle.walks.specs.Claim.{Safe}
 use Rattle.walks.specs.Walks.{Goes, Halts, goes-here, goes-step, halts-step, goes-goes, goes-halts, Match, m-to, m-done, covers, Covers}
@@ -24,19 +24,19 @@ use Rattle.walks.specs.Jumps.{shown-aimed}
 
 -- ---- how many sections
 
-pub length-orEmpty : (s : Stmts) (k : ℕ) (l : List SectionCode) → length l ≡ width s → length (orEmpty s k l) ≡ orOne s (width s)
+pub length-orEmpty : (s : Stmts) (k : ℕ) (l : List SectionCode) → length l ≡ sectionsMade s → length (orEmpty s k l) ≡ orOne s (sectionsMade s)
 length-orEmpty nil k l h = refl
 length-orEmpty (plain o s) k l h = h
 length-orEmpty (goto o r s) k l h = h
 length-orEmpty (ite o c t f s) k l h = h
 
-pub length-low : (b : Bool) (e n k : ℕ) (s : Stmts) → length (stmtSections b e n k s) ≡ width s
+pub length-low : (b : Bool) (e n k : ℕ) (s : Stmts) → length (stmtSections b e n k s) ≡ sectionsMade s
 length-low b e n k nil = refl
 length-low b e n k (plain o s) = ap suc (length-low b e (suc n) k s)
 length-low b e n k (goto o r s) = ap suc (length-low false e (suc n) k s)
 length-low b e n k (ite o c t f s) =
-    let nf = suc n + orOne t (width t) in
-    let nj = nf + orOne f (width f) in
+    let nf = suc n + orOne t (sectionsMade t) in
+    let nj = nf + orOne f (sectionsMade f) in
     let lt = stmtSections true e (suc n) nj t in
     let lf = stmtSections true e nf nj f in
     let ls = stmtSections b e (suc nj) k s in
@@ -243,14 +243,14 @@ module _ (m : List SectionCode) (L e : ℕ) where
 
   sim-ite : (o : List Instruction) (c : ℕ) (t u s : Stmts) → Simulates t → Simulates u → Simulates s → Simulates (ite o c t u s)
   sim-ite o c t u s ht hu hs p n k f os =
-      let nf = suc n + orOne t (width t) in
-      let nj = nf + orOne u (width u) in
+      let nf = suc n + orOne t (sectionsMade t) in
+      let nj = nf + orOne u (sectionsMade u) in
       let A = orEmpty t nj (stmtSections true e (suc n) nj t) in
       let B = orEmpty u nj (stmtSections true e nf nj u) in
       let ns = entry s (suc nj) k in
       let C = inner [] (section ns) ∷ stmtSections true e (suc nj) k s in
-      let lA : length A ≡ orOne t (width t) = length-orEmpty t nj (stmtSections true e (suc n) nj t) (length-low true e (suc n) nj t) in
-      let lB : length B ≡ orOne u (width u) = length-orEmpty u nj (stmtSections true e nf nj u) (length-low true e nf nj u) in
+      let lA : length A ≡ orOne t (sectionsMade t) = length-orEmpty t nj (stmtSections true e (suc n) nj t) (length-low true e (suc n) nj t) in
+      let lB : length B ≡ orOne u (sectionsMade u) = length-orEmpty u nj (stmtSections true e nf nj u) (length-low true e nf nj u) in
       let fA : Stands m (suc n) (suc n) A = fits-left m (suc n) A (B ++ C) (f .1) in
       let fBC : Stands m nf nf (B ++ C) = fits-cast m (suc n + length A) nf (B ++ C) (omega arith) (fits-right m (suc n) A (B ++ C) (f .1)) in
       let fB : Stands m nf nf B = fits-left m nf B C fBC in
@@ -306,11 +306,11 @@ module _ (m : List SectionCode) (L e : ℕ) where
 unfoldable pub base : ℕ → Script → ℕ → ℕ
 base n [] u = n
 base n (s ∷ ss) zero = n
-base n (s ∷ ss) (suc u) = base (n + width s) ss u
+base n (s ∷ ss) (suc u) = base (n + sectionsMade s) ss u
 
 pub heads-length : (L i n : ℕ) (ts : Script) → length (heads L i n ts) ≡ length ts
 heads-length L i n [] = refl
-heads-length L i n (s ∷ ts) = ap suc (heads-length L (suc i) (n + width s) ts)
+heads-length L i n (s ∷ ts) = ap suc (heads-length L (suc i) (n + sectionsMade s) ts)
 
 heads-at : (L i n : ℕ) (ts : Script) (u : ℕ) → u < length ts
     → getD (heads L i n ts) u absent ≡ headOf (nextLine L (i + u)) (lineSections L (i + u) (base n ts u) (getD ts u nil))
@@ -318,8 +318,8 @@ unfolding base
 heads-at L i n [] u h = absurd (not-suc-le-zero h)
 heads-at L i n (s ∷ ts) zero h = ap (λ (k : ℕ). headOf (nextLine L k) (lineSections L k n s)) (omega arith)
 heads-at L i n (s ∷ ts) (suc u) h =
-    heads-at L (suc i) (n + width s) ts u (le-of-suc-le-suc h)
-    ∙ ap (λ (k : ℕ). headOf (nextLine L k) (lineSections L k (base (n + width s) ts u) (getD ts u nil))) (omega arith)
+    heads-at L (suc i) (n + sectionsMade s) ts u (le-of-suc-le-suc h)
+    ∙ ap (λ (k : ℕ). headOf (nextLine L k) (lineSections L k (base (n + sectionsMade s) ts u) (getD ts u nil))) (omega arith)
 
 pub length-tailOf : (l : List SectionCode) → length (tailOf l) ≡ length l
 length-tailOf [] = refl
@@ -330,15 +330,15 @@ tails-at : (m : List SectionCode) (L i n : ℕ) (ts : Script) → Stands m n n (
 unfolding base
 tails-at m L i n [] f u h = absurd (not-suc-le-zero h)
 tails-at m L i n (s ∷ ts) f zero h =
-    subst (λ (k : ℕ). Stands m n n (tailOf (lineSections L k n s))) (omega arith) (fits-left m n (tailOf (lineSections L i n s)) (tails L (suc i) (n + width s) ts) f)
+    subst (λ (k : ℕ). Stands m n n (tailOf (lineSections L k n s))) (omega arith) (fits-left m n (tailOf (lineSections L i n s)) (tails L (suc i) (n + sectionsMade s) ts) f)
 tails-at m L i n (s ∷ ts) f (suc u) h =
     let l = lineSections L i n s in
-    let g = fits-right m n (tailOf l) (tails L (suc i) (n + width s) ts) f in
-    let g′ = fits-cast m (n + length (tailOf l)) (n + width s) (tails L (suc i) (n + width s) ts) (omega (arith, length-tailOf l, length-low true (nextLine L i) n (nextLine L i) s)) g in
+    let g = fits-right m n (tailOf l) (tails L (suc i) (n + sectionsMade s) ts) f in
+    let g′ = fits-cast m (n + length (tailOf l)) (n + sectionsMade s) (tails L (suc i) (n + sectionsMade s) ts) (omega (arith, length-tailOf l, length-low true (nextLine L i) n (nextLine L i) s)) g in
     subst
-    (λ (k : ℕ). Stands m (base (n + width s) ts u) (base (n + width s) ts u) (tailOf (lineSections L k (base (n + width s) ts u) (getD ts u nil))))
+    (λ (k : ℕ). Stands m (base (n + sectionsMade s) ts u) (base (n + sectionsMade s) ts u) (tailOf (lineSections L k (base (n + sectionsMade s) ts u) (getD ts u nil))))
     (omega arith)
-    (tails-at m L (suc i) (n + width s) ts g′ u (le-of-suc-le-suc h))
+    (tails-at m L (suc i) (n + sectionsMade s) ts g′ u (le-of-suc-le-suc h))
 
 pub nextLine-lt : (L i : ℕ) → i < L → nextLine L i < L
 nextLine-lt L i h = go (eqb (suc i) L) refl

@@ -14,12 +14,12 @@ use Rattle.rules.specs.Instr.{Instruction, ins₂, Kind, unused, num, str, val,
 use Rattle.rules.specs.Tables.{Counts}
 use Rattle.rules.specs.Replace.{rules, lookup}
 use Rattle.rules.specs.Script.{Stmts, nil, plain, Script, isNil}
-use Rattle.rules.specs.Assemble.{orOne, width}
+use Rattle.rules.specs.Assemble.{orOne, sectionsMade}
 use Rattle.rules.specs.CodegenData.{CodegenData, Lower, emit, newNum, newStr, scoped}
 use Rattle.rules.specs.Operators.{getVariable, copyValreg, makeTruthy, numberify, makeVal, makeArithBinop, applyBinop, applyUnop, codegenIncdec}
 use Rattle.rules.specs.Annotate.{codegenFromExpr, store, assignBy, codegenFromAssign, condition, lineNumber, annotateStmts, annotateLines, fresh, annotate}
 use Rattle.rules.specs.Lowered.{texts}
-use Rattle.walks.specs.Claim.{All}
+use Rattle.rules.specs.Demand.{All}
 use Rattle.walks.specs.Room.{adds, Ok, ok₂, Room, code-grows, roomOf, NameBelow, Fine, Cost, cost, plus, Went, seq, Most, within, room, went-here, went-emit, went-num, went-str}
 use Rattle.walks.specs.Steps.{MadeVal, MadeNum, value-made, copy-made, copy-new, truthy-made, numberify-made, valueify-made, numbered-made, arith-made, binary-made, unary-made, incdec-made, last}
 
@@ -191,7 +191,7 @@ codeOf (Stmts.ite o c t e s) = suc (length o) + (codeOf t + (codeOf e + codeOf s
 pub record Made (c : Tally) (g : CodegenData) (x : Stmts × CodegenData) : Type 0 where
   pub went : Went (free (costOf c)) g (x .1)
   pub whole : Whole (roomOf (x .1)) (x .0)
-  pub size-most : width (x .0) ≤ 4 * c .statements
+  pub size-most : sectionsMade (x .0) ≤ 4 * c .statements
   pub code-most : codeOf (x .0) ≤ 9 * c .nodes
 
 one-most : (s : Stmts) (n : ℕ) → orOne s n ≤ suc n
@@ -246,7 +246,7 @@ block-made (Block.ite c t e xs) g f =
         whole-grows (roomOf (z .1)) (roomOf (w .1)) r₃ (z .0) (d .whole),
         i .whole,
       );
-      size-most = omega (arith, b .size-most, d .size-most, i .size-most, one-most (y .0) (width (y .0)), one-most (z .0) (width (z .0)));
+      size-most = omega (arith, b .size-most, d .size-most, i .size-most, one-most (y .0) (sectionsMade (y .0)), one-most (z .0) (sectionsMade (z .0)));
       code-most = omega (arith, a .most, b .code-most, d .code-most, i .code-most);
     }
 block-made (Block.incdec i v xs) g f =
@@ -278,7 +278,7 @@ block-made (assign v o e xs) g f =
 
 abbrev pub sizes : Script → ℕ
 sizes [] = 0
-sizes (s ∷ ss) = width s + sizes ss
+sizes (s ∷ ss) = sectionsMade s + sizes ss
 
 abbrev pub codes : Script → ℕ
 codes [] = 0

@@ -16,7 +16,7 @@ use Rattle.rules.specs.Reading.{script}
 use Rattle.rules.specs.Replace.{replaced}
 use Rattle.rules.specs.Clean.{cleanSections, cleaned}
 use Rattle.rules.specs.Combine.{combineSections, combined}
-use Rattle.rules.specs.Codegen.{codegen}
+use Rattle.walks.specs.Codegen.{codegen}
 use Rattle.rules.specs.Lowered.{Options, assemble, lowered, finished}
 use Rattle.rules.specs.Annotate.{annotate}
 use Rattle.rules.specs.Operations.{sizeOf, estimate, fixedHere, jumpsFixed, cleanIn, allAhead, combineIn}

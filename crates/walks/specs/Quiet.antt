@@ -14,7 +14,8 @@ use Rattle.rules.specs.Script.{Stmts, nil, plain, goto, ite, Script}
 use Rattle.rules.specs.Assemble.{condJump}
 use Rattle.rules.specs.Replace.{Rule, stays, goes, turns, number, result, blank, rules, lookup, ruleFor, ruleOf, Regs, replaceBy, replaceIns, replaceCode}
 use Rattle.rules.specs.Reading.{repAll, repFirst, repRest, firsts, rests, repScript}
-use Rattle.walks.specs.Claim.{All, FieldsBelow, Registers, CodeGood, Good, GoodTree, GoodWhole}
+use Rattle.rules.specs.Demand.{All, FieldsBelow, RegistersBelow}
+use Rattle.walks.specs.Claim.{CodeGood, Good, GoodTree, GoodWhole}
 use Rattle.walks.specs.Jumps.{aimed-other}
 use Rattle.walks.specs.Combine.{true≢false}
 use Rattle.walks.specs.Room.{adds, Ok}
@@ -28,12 +29,12 @@ aside u zero a b c d h f = (tt, f .1, f .2)
 aside u (suc zero) a b c d h f = (tt, f .1, f .2)
 aside u (suc (suc o)) a b c d h f = absurd (omega arith)
 
-shown-regs : (u : Counts) (i : Instruction) → Registers u i → Registers u (shown i)
+shown-regs : (u : Counts) (i : Instruction) → RegistersBelow u i → RegistersBelow u (shown i)
 shown-regs u i h = go (isJump i) refl
   where
-    go : (b : Bool) → isJump i ≡ b → Registers u (shown i)
+    go : (b : Bool) → isJump i ≡ b → RegistersBelow u (shown i)
     go true e = aside u (i .op) (i .fst) (shown i .fst) (i .snd) (i .thd) (leb-true (i .op) 1 e) h
-    go false e = subst (Registers u) (sym (aimed-other 0 i e)) h
+    go false e = subst (RegistersBelow u) (sym (aimed-other 0 i e)) h
 
 -- ---- the rules' opcodes take the same first register
 
@@ -70,14 +71,14 @@ first-regs : (u : Counts) (i : Instruction) (q : ℕ) (k : Option (Kind × Kind 
 first-regs u i q none h = h
 first-regs u i q (some k) h = (h .0, refl, refl)
 
-turned-regs : (u : Counts) (i : Instruction) (q : ℕ) → kinds q ≡ first (kinds (i .op)) → Registers u i → Registers u (ins₁ q (i .fst))
+turned-regs : (u : Counts) (i : Instruction) (q : ℕ) → kinds q ≡ first (kinds (i .op)) → RegistersBelow u i → RegistersBelow u (ins₁ q (i .fst))
 turned-regs u i q e h = subst (λ (k : Option (Kind × Kind × Kind)). FieldsBelow u k (ins₁ q (i .fst))) (sym e) (first-regs u i q (kinds (i .op)) h)
 
 -- ---- instructions
 
 module _ (u : Counts) (p : ℕ) where
   abbrev P : Instruction → Type 0
-  P i = Registers u i
+  P i = RegistersBelow u i
 
   abbrev G : ℕ → Type 0
   G r = r < u .numbers
@@ -90,7 +91,7 @@ module _ (u : Counts) (p : ℕ) where
   by-quiet (result z) e σ i = absurd (true≢false true refl e)
   by-quiet blank e σ i = absurd (true≢false true refl e)
 
-  by-good : (r : Rule) → adds r ≡ false → (σ : Regs) (i : Instruction) → Keeps (i .op) r → Registers u i → CodeGood P (replaceBy p r σ i .0)
+  by-good : (r : Rule) → adds r ≡ false → (σ : Regs) (i : Instruction) → Keeps (i .op) r → RegistersBelow u i → CodeGood P (replaceBy p r σ i .0)
   by-good stays e σ i k h = (shown-regs u i h, tt)
   by-good goes e σ i k h = tt
   by-good (turns q) e σ i k h = (shown-regs u (ins₁ q (i .fst)) (turned-regs u i q k h), tt)
@@ -114,7 +115,7 @@ module _ (u : Counts) (p : ℕ) where
 
   -- ---- lists
 
-  cond-regs : (c : ℕ) → c < u .numbers → Registers u (condJump 0 c)
+  cond-regs : (c : ℕ) → c < u .numbers → RegistersBelow u (condJump 0 c)
   unfolding kinds
   cond-regs c h = (tt, h, refl)
 

@@ -10,10 +10,10 @@ use borrow.Author.Tests.{leb-true}
 use Rattle.rules.specs.Instr.{Instruction, isJump, aimed, ins₁}
 use Rattle.rules.specs.Machine.{SectionOrLine, unfixed, section, line, SectionCode, absent}
 use Rattle.rules.specs.Script.{Stmts, nil, plain, goto, ite, Script, isNil}
-use Rattle.rules.specs.Assemble.{nextLine, orOne, width, ownCode, entry, link, condJump, condCode, inner, orEmpty, stmtSections, headOf, tailOf, lineSections, heads, tails, sectionsOf}
+use Rattle.rules.specs.Assemble.{nextLine, orOne, sectionsMade, ownCode, entry, link, condJump, condCode, inner, orEmpty, stmtSections, headOf, tailOf, lineSections, heads, tails, sectionsOf}
 use Rattle.rules.specs.Replace.{Rule, stays, goes, turns, number, result, blank, rules, lookup, ruleFor, ruleOf, Regs, replaceBy, replaceIns, replaceCode, withCode, replaceSections}
 use Rattle.rules.specs.Reading.{repAll, repFirst, repRest, firsts, rests, repScript}
-use Rattle.walks.specs.Claim.{All}
+use Rattle.rules.specs.Demand.{All}
 use Rattle.walks.specs.Jumps.{aimed-other}
 
 -- ---- jumps stay
@@ -114,10 +114,10 @@ module _ (pl : ℕ) where
   isNil-rep σ (goto o r s) = refl
   isNil-rep σ (ite o c t f s) = refl
 
-  one-of : (s s′ : Stmts) → isNil s′ ≡ isNil s → width s′ ≡ width s → orOne s′ (width s′) ≡ orOne s (width s)
+  one-of : (s s′ : Stmts) → isNil s′ ≡ isNil s → sectionsMade s′ ≡ sectionsMade s → orOne s′ (sectionsMade s′) ≡ orOne s (sectionsMade s)
   one-of s s′ p q = ap₂ (λ (b : Bool) (n : ℕ). cond b 1 n) p q
 
-  size-rep : (σ : Regs) (s : Stmts) → width (repAll pl σ s .0) ≡ width s
+  size-rep : (σ : Regs) (s : Stmts) → sectionsMade (repAll pl σ s .0) ≡ sectionsMade s
   size-rep σ nil = refl
   size-rep σ (plain o s) = ap suc (size-rep (replaceCode pl σ o .1) s)
   size-rep σ (goto o r s) = ap suc (size-rep (replaceCode pl σ o .1) s)
@@ -130,7 +130,7 @@ module _ (pl : ℕ) where
       (one-of t (repAll pl σ₁ t .0) (isNil-rep σ₁ t) (size-rep σ₁ t))
       (ap₂ (λ (x y : ℕ). x + suc y) (one-of f (repAll pl σ₂ f .0) (isNil-rep σ₂ f) (size-rep σ₂ f)) (size-rep σ₃ s))
 
-  one-rep : (σ : Regs) (s : Stmts) → orOne (repAll pl σ s .0) (width (repAll pl σ s .0)) ≡ orOne s (width s)
+  one-rep : (σ : Regs) (s : Stmts) → orOne (repAll pl σ s .0) (sectionsMade (repAll pl σ s .0)) ≡ orOne s (sectionsMade s)
   one-rep σ s = one-of s (repAll pl σ s .0) (isNil-rep σ s) (size-rep σ s)
 
   rep-two : (σ : Regs) (a b a′ b′ : List SectionCode) (σ₁ σ₂ : Regs) → replaceSections pl σ a ≡ (a′, σ₁) → replaceSections pl σ₁ b ≡ (b′, σ₂) → replaceSections pl σ (a ++ b) ≡ (a′ ++ b′, σ₂)
@@ -168,10 +168,10 @@ module _ (pl : ℕ) where
     ite-tail : let a = repAll pl σ₁ t in
         let g = repAll pl (a .1) f in
         let r = repAll pl (g .1) s in
-        replaceSections pl σ₁ (iteTail b e n k t f s (orOne t (width t)) (orOne f (width f))) ≡ (iteTail b e n k (a .0) (g .0) (r .0) (orOne (a .0) (width (a .0))) (orOne (g .0) (width (g .0))), r .1)
+        replaceSections pl σ₁ (iteTail b e n k t f s (orOne t (sectionsMade t)) (orOne f (sectionsMade f))) ≡ (iteTail b e n k (a .0) (g .0) (r .0) (orOne (a .0) (sectionsMade (a .0))) (orOne (g .0) (sectionsMade (g .0))), r .1)
     ite-tail =
-        let nf = suc n + orOne t (width t) in
-        let nj = nf + orOne f (width f) in
+        let nf = suc n + orOne t (sectionsMade t) in
+        let nj = nf + orOne f (sectionsMade f) in
         let t′ = repAll pl σ₁ t .0 in
         let σ₂ = repAll pl σ₁ t .1 in
         let f′ = repAll pl σ₂ f .0 in
@@ -205,7 +205,7 @@ module _ (pl : ℕ) where
 
   -- An Ite's first section, its then-list replaced.
   head-list : (e n : ℕ) (o : List Instruction) (c : ℕ) (t : Stmts) (σ : Regs)
-      → iteHead e n o c t (orOne t (width t)) ≡ iteHead e n o c (repAll pl σ t .0) (orOne (repAll pl σ t .0) (width (repAll pl σ t .0)))
+      → iteHead e n o c t (orOne t (sectionsMade t)) ≡ iteHead e n o c (repAll pl σ t .0) (orOne (repAll pl σ t .0) (sectionsMade (repAll pl σ t .0)))
   head-list e n o c t σ =
       ap₂ (λ (z : Bool) (x : ℕ). inner (ownCode e o ++ cond z [] (condJump (suc n) c ∷ [])) (section (suc n + x))) (sym (isNil-rep σ t)) (sym (one-rep σ t))
 
@@ -219,11 +219,11 @@ module _ (pl : ℕ) where
       let σ₃ = repAll pl σ₂ f .1 in
       let s′ = repAll pl σ₃ s .0 in
       let σ₄ = repAll pl σ₃ s .1 in
-      let W′ = iteTail b e n k t′ f′ s′ (orOne t′ (width t′)) (orOne f′ (width f′)) in
+      let W′ = iteTail b e n k t′ f′ s′ (orOne t′ (sectionsMade t′)) (orOne f′ (sectionsMade f′)) in
       rep-cons
       σ
-      (iteHead e n o c t (orOne t (width t)))
-      (iteTail b e n k t f s (orOne t (width t)) (orOne f (width f)))
+      (iteHead e n o c t (orOne t (sectionsMade t)))
+      (iteTail b e n k t f s (orOne t (sectionsMade t)) (orOne f (sectionsMade f)))
       (ownCode e o′ ++ condCode t c (suc n))
       W′
       σ₁
@@ -262,7 +262,7 @@ module _ (pl : ℕ) where
   head-sect e n σ (goto o r s) = refl
   head-sect e n σ (ite o c t f s) = refl
 
-  size-first : (σ : Regs) (s : Stmts) → width (repFirst pl σ s .0) ≡ width s
+  size-first : (σ : Regs) (s : Stmts) → sectionsMade (repFirst pl σ s .0) ≡ sectionsMade s
   size-first σ nil = refl
   size-first σ (plain o s) = refl
   size-first σ (goto o r s) = refl
@@ -278,7 +278,7 @@ module _ (pl : ℕ) where
       let σ₁ = repFirst pl σ s .1 in
       let t′ = firsts pl σ₁ t .0 in
       let σ₂ = firsts pl σ₁ t .1 in
-      rep-cons σ h (heads L (suc i) (n + width s) t) (h′ .instrs) (heads L (suc i) (n + width s) t′) σ₁ σ₂ (head-code e n σ s) (heads-rep L (suc i) (n + width s) σ₁ t)
+      rep-cons σ h (heads L (suc i) (n + sectionsMade s) t) (h′ .instrs) (heads L (suc i) (n + sectionsMade s) t′) σ₁ σ₂ (head-code e n σ s) (heads-rep L (suc i) (n + sectionsMade s) σ₁ t)
       ∙ ap₂ (λ (x : SectionCode) (k : ℕ). (x ∷ heads L (suc i) (n + k) t′, σ₂)) (head-sect e n σ s) (sym (size-first σ s))
 
   tail-first : (e n : ℕ) (σ : Regs) (s : Stmts) → tailOf (stmtSections true e n e (repFirst pl σ s .0)) ≡ tailOf (stmtSections true e n e s)
@@ -293,9 +293,9 @@ module _ (pl : ℕ) where
       let e = nextLine L i in
       let σ₁ = repFirst pl σ s .1 in
       ap₂ (λ (l : List SectionCode) (k : ℕ). l ++ tails L (suc i) (n + k) (firsts pl σ₁ t .0)) (tail-first e n σ s) (size-first σ s)
-      ∙ ap (λ (l : List SectionCode). tailOf (stmtSections true e n e s) ++ l) (tails-first L (suc i) (n + width s) σ₁ t)
+      ∙ ap (λ (l : List SectionCode). tailOf (stmtSections true e n e s) ++ l) (tails-first L (suc i) (n + sectionsMade s) σ₁ t)
 
-  size-rest : (σ : Regs) (s : Stmts) → width (repRest pl σ s .0) ≡ width s
+  size-rest : (σ : Regs) (s : Stmts) → sectionsMade (repRest pl σ s .0) ≡ sectionsMade s
   size-rest σ nil = refl
   size-rest σ (plain o s) = ap suc (size-rep σ s)
   size-rest σ (goto o r s) = ap suc (size-rep σ s)
@@ -316,7 +316,7 @@ module _ (pl : ℕ) where
       let e = nextLine L i in
       let σ₁ = repRest pl σ s .1 in
       ap₂ (λ (x : SectionCode) (k : ℕ). x ∷ heads L (suc i) (n + k) (rests pl σ₁ t .0)) (head-rest e n σ s) (size-rest σ s)
-      ∙ ap (λ (l : List SectionCode). headOf e (stmtSections true e n e s) ∷ l) (heads-rest L (suc i) (n + width s) σ₁ t)
+      ∙ ap (λ (l : List SectionCode). headOf e (stmtSections true e n e s) ∷ l) (heads-rest L (suc i) (n + sectionsMade s) σ₁ t)
 
   tail-rep : (e n : ℕ) (σ : Regs) (s : Stmts) → replaceSections pl σ (tailOf (stmtSections true e n e s)) ≡ (tailOf (stmtSections true e n e (repRest pl σ s .0)), repRest pl σ s .1)
   tail-rep e n σ nil = refl
@@ -329,9 +329,9 @@ module _ (pl : ℕ) where
       rep-cons
       σ
       absent
-      (iteTail true e n e t f s (orOne t (width t)) (orOne f (width f)))
+      (iteTail true e n e t f s (orOne t (sectionsMade t)) (orOne f (sectionsMade f)))
       []
-      (iteTail true e n e (a .0) (g .0) (r .0) (orOne (a .0) (width (a .0))) (orOne (g .0) (width (g .0))))
+      (iteTail true e n e (a .0) (g .0) (r .0) (orOne (a .0) (sectionsMade (a .0))) (orOne (g .0) (sectionsMade (g .0))))
       σ
       (r .1)
       refl
@@ -348,13 +348,13 @@ module _ (pl : ℕ) where
       rep-two
       σ
       (tailOf (stmtSections true e n e s))
-      (tails L (suc i) (n + width s) t)
+      (tails L (suc i) (n + sectionsMade s) t)
       (tailOf (stmtSections true e n e s′))
-      (tails L (suc i) (n + width s) t′)
+      (tails L (suc i) (n + sectionsMade s) t′)
       σ₁
       σ₂
       (tail-rep e n σ s)
-      (tails-rep L (suc i) (n + width s) σ₁ t)
+      (tails-rep L (suc i) (n + sectionsMade s) σ₁ t)
       ∙ ap (λ (k : ℕ). (tailOf (stmtSections true e n e s′) ++ tails L (suc i) (n + k) t′, σ₂)) (sym (size-rest σ s))
 
   length-firsts : (σ : Regs) (t : Script) → length (firsts pl σ t .0) ≡ length t

@@ -15,7 +15,7 @@ use Rattle.rules.specs.Tables.{Counts}
 use Rattle.rules.specs.Replace.{Rule, stays, goes, turns, number, result, blank, rules, lookup, ruleFor, ruleOf}
 use Rattle.rules.specs.CodegenData.{CodegenData, emit, newNum, newStr, newVal, bindName}
 use Rattle.rules.specs.Lowered.{texts}
-use Rattle.walks.specs.Claim.{All, FieldBelow, FieldsBelow, Registers}
+use Rattle.rules.specs.Demand.{All, FieldBelow, FieldsBelow, RegistersBelow}
 
 -- ---- instructions
 
@@ -29,7 +29,7 @@ adds (result z) = true
 adds blank = true
 
 pub record Ok (u : Counts) (i : Instruction) : Type 0 where
-  pub regs : Registers u i
+  pub regs : RegistersBelow u i
   pub quiet : adds (ruleOf i) ≡ false
 
 quiet-op : (b : Bool) (o : ℕ) → adds (lookup o rules) ≡ false → adds (ruleFor b o) ≡ false
@@ -69,7 +69,7 @@ fields-grow : (u w : Counts) → Room u w → (k : Option (Kind × Kind × Kind)
 fields-grow u w r none i h = h
 fields-grow u w r (some k) i h = (field-grows u w r (k .0) (i .fst) (h .0), field-grows u w r (k .1) (i .snd) (h .1), field-grows u w r (k .2) (i .thd) (h .2))
 
-pub registers-grow : (u w : Counts) → Room u w → (i : Instruction) → Registers u i → Registers w i
+pub registers-grow : (u w : Counts) → Room u w → (i : Instruction) → RegistersBelow u i → RegistersBelow w i
 registers-grow u w r i h = fields-grow u w r (kinds (i .op)) i h
 
 ok-grows : (u w : Counts) → Room u w → (i : Instruction) → Ok u i → Ok w i

@@ -12,10 +12,10 @@ use lib.Seq.{getD-append-add}
 use Rattle.rules.specs.Instr.{fall, Instruction, isJump}
 use Rattle.rules.specs.Machine.{SectionOrLine, unfixed, section, line, SectionCode, absent, isFixed}
 use Rattle.rules.specs.Script.{Stmts, nil, plain, goto, ite, Script}
-use Rattle.rules.specs.Assemble.{nextLine, width, stmtSections, headOf, lineSections, heads, tails, sectionsOf}
+use Rattle.rules.specs.Assemble.{nextLine, sectionsMade, stmtSections, headOf, lineSections, heads, tails, sectionsOf}
 use Rattle.rules.specs.Clean.{renIns, renNext, ren, keep, rank, cleanSections}
 use Rattle.rules.specs.Combine.{hit, refsNext, refsIns, refsCode, joined, combineAt, combineSections}
-use Rattle.walks.specs.Claim.{All}
+use Rattle.rules.specs.Demand.{All}
 use Rattle.walks.specs.Lower.{heads-length}
 use Rattle.walks.specs.Combine.{cond-hit, lt-or-le, fall-low, fall-high, Ready, Pair, Came, came, Set, taken, kept, set-here, clear-at, pair-below, combine-ready, combine-length, combine-along}
 use Rattle.walks.specs.Fits.{loose, AllAt}
@@ -141,8 +141,8 @@ keep-heads : (L i n : ℕ) (t : Script) → keep (heads L i n t) ≡ heads L i n
 keep-heads L i n [] = refl
 keep-heads L i n (s ∷ t) =
     let h = headOf (nextLine L i) (lineSections L i n s) in
-    let r = heads L (suc i) (n + width s) t in
-    ap (λ (x : Bool). cond x (h ∷ keep r) (keep r)) (head-fixed (nextLine L i) n s) ∙ ap (λ (l : List SectionCode). h ∷ l) (keep-heads L (suc i) (n + width s) t)
+    let r = heads L (suc i) (n + sectionsMade s) t in
+    ap (λ (x : Bool). cond x (h ∷ keep r) (keep r)) (head-fixed (nextLine L i) n s) ∙ ap (λ (l : List SectionCode). h ∷ l) (keep-heads L (suc i) (n + sectionsMade s) t)
 
 loose-inner : (a b c : Bool) → (not a || not b && c) ≡ true → b ≡ true → a ≡ false
 loose-inner true true c h k = absurd (let z : _≡_ {A = ℕ} 0 1 = cc in omega arith)

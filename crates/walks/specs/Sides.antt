@@ -12,7 +12,8 @@ use Rattle.rules.specs.Walk.{Ask, atJump, atGoto, Halt, ask, lost, Step, to, do
 use Rattle.rules.specs.Script.{Stmts, nil, plain, goto, ite, Script, isNil}
 use Rattle.rules.specs.Assemble.{condJump, nextLine}
 use Rattle.rules.specs.ReadScript.{Out, behind, erred, gone, stop, thenOn, andThen, readOwn, readGoto, readIf, readCond, read, onward, stepLine, readScript, readIns}
-use Rattle.walks.specs.Claim.{Walk, Safe, All, prune, CodeGood, Good, GoodTree, GoodEnd}
+use Rattle.rules.specs.Demand.{Walk, All, prune}
+use Rattle.walks.specs.Claim.{Safe, CodeGood, Good, GoodTree, GoodEnd}
 use Rattle.walks.specs.Walks.{Below, Within}
 use Rattle.walks.specs.Combine.{lt-or-le}
 

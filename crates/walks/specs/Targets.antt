@@ -11,9 +11,9 @@ use lib.ListN.{length, getD, take, length-append, length-map, List·getD-map, Li
 use Rattle.rules.specs.Instr.{Instruction, isJump, aimed}
 use Rattle.rules.specs.Machine.{SectionOrLine, unfixed, section, line, SectionCode, absent, isFixed}
 use Rattle.rules.specs.Script.{Stmts, nil, plain, goto, ite, Script}
-use Rattle.rules.specs.Assemble.{nextLine, orOne, width, ownCode, entry, link, condJump, condCode, inner, orEmpty, stmtSections, headOf, tailOf, lineSections, heads, tails, sectionsOf}
+use Rattle.rules.specs.Assemble.{nextLine, orOne, sectionsMade, ownCode, entry, link, condJump, condCode, inner, orEmpty, stmtSections, headOf, tailOf, lineSections, heads, tails, sectionsOf}
 use Rattle.rules.specs.Clean.{renIns, renNext, ren, keep, rank, cleanSections}
-use Rattle.walks.specs.Claim.{All}
+use Rattle.rules.specs.Demand.{All}
 use Rattle.walks.specs.Lower.{nextLine-lt}
 use Rattle.walks.specs.Own.{sizes}
 use Rattle.walks.specs.Fits.{loose}
@@ -47,7 +47,7 @@ module _ (N e : ℕ) (he : e < N) where
   link-aims true t h = h
   link-aims false t h = tt
 
-  entry-below : (s : Stmts) (m k : ℕ) → k < N → m + width s ≤ N → entry s m k < N
+  entry-below : (s : Stmts) (m k : ℕ) → k < N → m + sectionsMade s ≤ N → entry s m k < N
   entry-below nil m k p q = p
   entry-below (plain o s) m k p q = omega arith
   entry-below (goto o r s) m k p q = omega arith
@@ -65,20 +65,20 @@ module _ (N e : ℕ) (he : e < N) where
   empty-aims (goto o r s) k l h p = p
   empty-aims (ite o c t f s) k l h p = p
 
-  one-least : (s : Stmts) → width s ≤ orOne s (width s)
+  one-least : (s : Stmts) → sectionsMade s ≤ orOne s (sectionsMade s)
   one-least nil = omega arith
   one-least (plain o s) = omega arith
   one-least (goto o r s) = omega arith
   one-least (ite o c t f s) = omega arith
 
-  low-aims : (b : Bool) (n k : ℕ) (s : Stmts) → k < N → n + width s ≤ N → All (Aims N) (stmtSections b e n k s)
+  low-aims : (b : Bool) (n k : ℕ) (s : Stmts) → k < N → n + sectionsMade s ≤ N → All (Aims N) (stmtSections b e n k s)
   low-aims b n k nil p q = tt
   low-aims b n k (plain o s) p q =
       ((own-aims o, link-aims b (entry s (suc n) k) (entry-below s (suc n) k p (omega arith))), low-aims b (suc n) k s p (omega arith))
   low-aims b n k (goto o r s) p q = ((own-aims o, tt), low-aims false (suc n) k s p (omega arith))
   low-aims b n k (ite o c t f s) p q =
-      let nf = suc n + orOne t (width t) in
-      let nj = nf + orOne f (width f) in
+      let nf = suc n + orOne t (sectionsMade t) in
+      let nj = nf + orOne f (sectionsMade f) in
       let a = one-least t in
       let d = one-least f in
       let lt = stmtSections true e (suc n) nj t in
@@ -112,7 +112,7 @@ module _ (N L : ℕ) (hL : L ≤ N) where
   heads-aim i n (s ∷ t) h k =
       let e = nextLine L i in
       let he : e < N = omega (arith, nextLine-lt L i (omega arith)) in
-      (head-aims N e he (lineSections L i n s) (low-aims N e he true n e s he (omega arith)), heads-aim (suc i) (n + width s) t (omega arith) (omega arith))
+      (head-aims N e he (lineSections L i n s) (low-aims N e he true n e s he (omega arith)), heads-aim (suc i) (n + sectionsMade s) t (omega arith) (omega arith))
 
   tails-aim : (i n : ℕ) (t : Script) → i + length t ≤ L → n + sizes t ≤ N → All (Aims N) (tails L i n t)
   tails-aim i n [] h k = tt
@@ -121,9 +121,9 @@ module _ (N L : ℕ) (hL : L ≤ N) where
       let he : e < N = omega (arith, nextLine-lt L i (omega arith)) in
       all-append (Aims N)
       (tailOf (lineSections L i n s))
-      (tails L (suc i) (n + width s) t)
+      (tails L (suc i) (n + sectionsMade s) t)
       (tail-aims N (lineSections L i n s) (low-aims N e he true n e s he (omega arith)))
-      (tails-aim (suc i) (n + width s) t (omega arith) (omega arith))
+      (tails-aim (suc i) (n + sectionsMade s) t (omega arith) (omega arith))
 
 pub lower-aims : (t : Script) → All (Aims (length t + sizes t)) (sectionsOf t)
 unfolding sectionsOf
@@ -148,8 +148,8 @@ low-loose b e n k nil = tt
 low-loose b e n k (plain o s) = (refl, low-loose b e (suc n) k s)
 low-loose b e n k (goto o r s) = (refl, low-loose false e (suc n) k s)
 low-loose b e n k (ite o c t f s) =
-    let nf = suc n + orOne t (width t) in
-    let nj = nf + orOne f (width f) in
+    let nf = suc n + orOne t (sectionsMade t) in
+    let nj = nf + orOne f (sectionsMade f) in
     let lt = stmtSections true e (suc n) nj t in
     let lf = stmtSections true e nf nj f in
     let r = inner [] (link b (entry s (suc nj) k)) ∷ stmtSections b e (suc nj) k s in
@@ -162,7 +162,7 @@ tail-loose (s ∷ l) p = (refl, p .1)
 pub tails-loose : (L i n : ℕ) (t : Script) → All Loose (tails L i n t)
 tails-loose L i n [] = tt
 tails-loose L i n (s ∷ t) =
-    all-append Loose (tailOf (lineSections L i n s)) (tails L (suc i) (n + width s) t) (tail-loose (lineSections L i n s) (low-loose true (nextLine L i) n (nextLine L i) s)) (tails-loose L (suc i) (n + width s) t)
+    all-append Loose (tailOf (lineSections L i n s)) (tails L (suc i) (n + sectionsMade s) t) (tail-loose (lineSections L i n s) (low-loose true (nextLine L i) n (nextLine L i) s)) (tails-loose L (suc i) (n + sectionsMade s) t)
 
 -- ---- cleaned
 

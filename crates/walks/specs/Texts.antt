@@ -22,7 +22,7 @@ use Rattle.rules.specs.CodegenData.{CodegenData, Lower, emit, newNum, newStr, s
 use Rattle.rules.specs.Operators.{getVariable, copyValreg, makeTruthy, numberify, makeVal, makeArithBinop, applyBinop, applyUnop, codegenIncdec}
 use Rattle.rules.specs.Annotate.{codegenFromExpr, store, assignBy, codegenFromAssign, condition, lineNumber, annotateStmts, annotateLines, fresh, annotate}
 use Rattle.rules.specs.Lowered.{Options, nameWord, protects, nameWords, spans, texts}
-use Rattle.walks.specs.Claim.{All}
+use Rattle.rules.specs.Demand.{All}
 use Rattle.walks.specs.Room.{NameBelow}
 use Rattle.walks.specs.Limits.{ShortExpr}
 use Rattle.walks.specs.LimitsTree.{ShortBlock}

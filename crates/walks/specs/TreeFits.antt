@@ -23,7 +23,8 @@ use Rattle.rules.specs.Reading.{script}
 use Rattle.rules.specs.Clean.{renIns, ren, keep, rank, cleanSections, cleaned}
 use Rattle.rules.specs.Combine.{without, joined, combineAt, combineSections, combined}
 use Rattle.rules.specs.Lowered.{Options, spans, texts, lowered, finished}
-use Rattle.walks.specs.Claim.{All, Registers, SectGood}
+use Rattle.rules.specs.Demand.{All, RegistersBelow}
+use Rattle.walks.specs.Claim.{SectGood}
 use Rattle.walks.specs.Clean.{clean-ready}
 use Rattle.walks.specs.Combine.{Ready, Kept, Pair, pair-below, combine-length, combine-along, combine-keeps}
 use Rattle.walks.specs.Lower.{lower-fixed, lower-starts}
@@ -146,7 +147,7 @@ module _ (o : Options) (t : Tree) (lim : Limits t) where
     lower-fit : SectsFit (length (script t)) u (sectionsOf (script t))
     lower-fit =
         record {
-          good = lower-good (Registers u) (λ n. n < u .numbers) (script t) (good-for o t u r);
+          good = lower-good (RegistersBelow u) (λ n. n < u .numbers) (script t) (good-for o t u r);
           aims = subst (λ (n : ℕ). All (Aims n) (sectionsOf (script t))) (sym (sections-length (script t))) (lower-aims (script t));
           starts = lower-starts (script t) pos;
           later = lower-later (script t);
@@ -155,7 +156,7 @@ module _ (o : Options) (t : Tree) (lim : Limits t) where
     clean-fit : SectsFit (length (script t)) u (cleanSections (sectionsOf (script t)))
     clean-fit =
         record {
-          good = clean-good (Registers u) (λ n. n < u .numbers) (sectionsOf (script t)) (lower-fit .good);
+          good = clean-good (RegistersBelow u) (λ n. n < u .numbers) (sectionsOf (script t)) (lower-fit .good);
           aims = clean-aims (sectionsOf (script t)) some-kept;
           starts = ready .starts;
           later = λ n h p.
@@ -167,7 +168,7 @@ module _ (o : Options) (t : Tree) (lim : Limits t) where
     finish-fit =
         let m = cleanSections (sectionsOf (script t)) in
         record {
-          good = combined-good (Registers u) (λ n. n < u .numbers) m (clean-fit .good);
+          good = combined-good (RegistersBelow u) (λ n. n < u .numbers) m (clean-fit .good);
           aims = combine-aims (length (script t)) pos m ready (clean-fit .aims);
           starts = combine-keeps (length (script t)) pos m ready .ready .starts;
           later = λ n h p.

@@ -9,7 +9,8 @@ use lib.ListN.{length, take, length-take}
 use lib.Seq.{take-append-le}
 use Rattle.rules.specs.Instr.{Instruction}
 use Rattle.rules.specs.Walk.{Ask, Halt, ask, lost, Step, to, done, End, more, over, Leg, Trace, pre, onto, run}
-use Rattle.walks.specs.Claim.{Walk, Meets, Stops, Safe, SameWalk}
+use Rattle.rules.specs.Demand.{Walk, Meets, Stops}
+use Rattle.walks.specs.Claim.{Safe, Alike}
 
 -- ---- fuel, added so that it computes
 
@@ -170,7 +171,7 @@ within-safe v w h safe k e = go (h k .1)
     go (inl p) = safe (h k .0) (ap (λ (t : Trace). t .1) p ∙ e)
     go (inr (m, z)) = over≢more lost (sym e ∙ m)
 
-pub same-walk : (v w : Walk) → Within v w → Within w v → SameWalk v w
+pub same-walk : (v w : Walk) → Within v w → Within w v → Alike v w
 same-walk v w g h =
     record {
       meets = λ n l. (within-meets v w g n l, within-meets w v h n l);

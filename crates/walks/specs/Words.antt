@@ -10,8 +10,9 @@ use Rattle.rules.specs.Machine.{SectionOrLine, unfixed, section, line, SectionC
 use Rattle.rules.specs.Clean.{renIns, renNext, ren, keep, rank, cleanSections}
 use Rattle.rules.specs.Combine.{pair, without, joined, combineAt, combineFuel, combineSections}
 use Rattle.rules.specs.Script.{Stmts, nil, plain, goto, ite, Script}
-use Rattle.rules.specs.Assemble.{condJump, nextLine, orOne, width, ownCode, entry, link, condCode, inner, orEmpty, stmtSections, headOf, tailOf, lineSections, heads, tails, sectionsOf}
-use Rattle.walks.specs.Claim.{All, GoodWhole, CodeGood, NextGood, SectGood}
+use Rattle.rules.specs.Assemble.{condJump, nextLine, orOne, sectionsMade, ownCode, entry, link, condCode, inner, orEmpty, stmtSections, headOf, tailOf, lineSections, heads, tails, sectionsOf}
+use Rattle.rules.specs.Demand.{All}
+use Rattle.walks.specs.Claim.{GoodWhole, CodeGood, NextGood, SectGood}
 use Rattle.walks.specs.Jumps.{shown-aimed}
 
 -- A script's sections, cleaned and combined.
@@ -112,8 +113,8 @@ module _ (P : Instruction → Type 0) (G : ℕ → Type 0) where
   low-good b e n k (plain o s) g = ((own-good e o (g .0), link-good b (entry s (suc n) k)), low-good b e (suc n) k s (g .1))
   low-good b e n k (goto o r s) g = ((own-good e o (g .0), g .1), low-good false e (suc n) k s (g .2))
   low-good b e n k (ite o c t f s) g =
-      let nf = suc n + orOne t (width t) in
-      let nj = nf + orOne f (width f) in
+      let nf = suc n + orOne t (sectionsMade t) in
+      let nj = nf + orOne f (sectionsMade f) in
       let lt = stmtSections true e (suc n) nj t in
       let lf = stmtSections true e nf nj f in
       let j = inner [] (link b (entry s (suc nj) k)) ∷ stmtSections b e (suc nj) k s in (
@@ -142,16 +143,16 @@ module _ (P : Instruction → Type 0) (G : ℕ → Type 0) where
   heads-good : (L i n : ℕ) (t : Script) → All (GoodWhole P G) t → All S (heads L i n t)
   heads-good L i n [] g = tt
   heads-good L i n (s ∷ t) g =
-      (head-good (nextLine L i) (lineSections L i n s) (low-good true (nextLine L i) n (nextLine L i) s (g .0)), heads-good L (suc i) (n + width s) t (g .1))
+      (head-good (nextLine L i) (lineSections L i n s) (low-good true (nextLine L i) n (nextLine L i) s (g .0)), heads-good L (suc i) (n + sectionsMade s) t (g .1))
 
   tails-good : (L i n : ℕ) (t : Script) → All (GoodWhole P G) t → All S (tails L i n t)
   tails-good L i n [] g = tt
   tails-good L i n (s ∷ t) g =
       all-append S
       (tailOf (lineSections L i n s))
-      (tails L (suc i) (n + width s) t)
+      (tails L (suc i) (n + sectionsMade s) t)
       (tail-good (lineSections L i n s) (low-good true (nextLine L i) n (nextLine L i) s (g .0)))
-      (tails-good L (suc i) (n + width s) t (g .1))
+      (tails-good L (suc i) (n + sectionsMade s) t (g .1))
 
   pub lower-good : (t : Script) → All (GoodWhole P G) t → All S (sectionsOf t)
   unfolding sectionsOf

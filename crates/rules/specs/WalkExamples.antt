@@ -1,22 +1,69 @@
--- Scripts made by hand: both walks, both lowerings and the order of replacement, computed.
+-- Both walks, computed on files and on scripts made by hand, and the order of replacement.
 use mathlib.Core.Path.{_≡_, refl}
 use mathlib.Core.Bool.{Bool, true, false}
 use mathlib.Core.List.{List, [], _∷_, map}
 use Prim.Native.Nat.{ℕ}
-use lib.IntN.{ℤ, pos}
-use lib.ListN.{length}
+use Rattle.rules.specs.Bits.{Res, refused, ok}
+use Rattle.rules.specs.Parse.{parse}
 use Rattle.rules.specs.Opcode as Op
 use Rattle.rules.specs.Instr.{Instruction, ins₁, ins₂}
-use Rattle.rules.specs.Machine.{SectionOrLine, unfixed, section, line, SectionCode}
 use Rattle.rules.specs.Script.{Stmts, nil, plain, goto, ite, Script}
 use Rattle.rules.specs.Assemble.{sectionsOf}
-use Rattle.rules.specs.Codegen.{codegen}
-use Rattle.rules.specs.Replace.{rules, lookup, Regs, replaceSections}
-use Rattle.rules.specs.Reading.{repScript}
+use Rattle.rules.specs.Replace.{rules, lookup, replaceSections}
 use Rattle.rules.specs.Clean.{cleanSections}
 use Rattle.rules.specs.Combine.{combineSections}
-use Rattle.rules.specs.Walk.{Trace, atJump, atGoto, ask, over, walkSections}
+use Rattle.rules.specs.Lowered.{defaults, finished}
+use Rattle.rules.specs.Walk.{Trace, Ask, atJump, atGoto, ask, more, over, walkSections, walk}
 use Rattle.rules.specs.ReadScript.{readScript}
+use Rattle.rules.specs.Reading.{repScript, reading}
+use Rattle.rules.specs.Examples.{bytes}
+
+-- ---- files: `if a then b=1 end`, `goto 1 if a then end` and an empty line, under lists of outcomes
+
+-- a file, outcomes, what both walks meet, and where they stop
+pub record Walked : Type 0 where
+  pub file : List ℕ
+  pub outcomes : List ℕ
+  pub met : List Instruction
+  pub last : Ask
+
+-- a test that is taken, then not, then without an outcome; a taken error, then none, then a goto without an outcome
+unfoldable pub walks : List Walked
+unfolding bytes
+walks =
+    record {
+      file = bytes 21 0x0101020184062056000E02200000000000001F4000;
+      outcomes = 1 ∷ 0 ∷ [];
+      met = ins₂ Op.IsTruthyVal 0 0 ∷ ins₂ Op.JumpSectionIf 0 0 ∷ ins₂ Op.ValueifyNum 1 1 ∷ ins₂ Op.CopyVal 1 2 ∷ ins₂ Op.IsTruthyVal 0 0 ∷ ins₂ Op.JumpSectionIf 0 0 ∷ ins₂ Op.IsTruthyVal 0 0 ∷ ins₂ Op.JumpSectionIf 0 0 ∷ [];
+      last = atJump (ins₂ Op.JumpSectionIf 0 0);
+    }
+    ∷ record {
+      file = bytes 18 0x01010101842200000000000001F42C000000;
+      outcomes = 1 ∷ 0 ∷ [];
+      met = ins₂ Op.ValueifyNum 0 0 ∷ ins₂ Op.NumberifyVal 0 1 ∷ ins₁ Op.JumpIfError 0 ∷ ins₂ Op.ValueifyNum 0 0 ∷ ins₂ Op.NumberifyVal 0 1 ∷ ins₁ Op.JumpIfError 0 ∷ [];
+      last = atGoto 1;
+    }
+    ∷ []
+
+-- both walks of a file, 100 steps each
+unfoldable pub bothWalks : List ℕ → List ℕ → Res (Trace × Trace)
+unfolding parse finished defaults walk reading
+bothWalks s os = elim (parse s) [ refused n ↦ refused n | ok t ↦ ok (walk (finished defaults t) os 100, reading t os 100) ]
+
+-- what is expected of both
+unfoldable pub twice : Walked → Res (Trace × Trace)
+twice w = let t : Trace = (w .met, over (ask (w .last))) in ok (t, t)
+
+pub walk-examples : map (λ (w : Walked). bothWalks (w .file) (w .outcomes)) walks ≡ map twice walks
+unfolding bothWalks twice walks
+walk-examples = refl
+
+-- an empty line: both go on for ever and meet nothing
+pub silent : bothWalks (bytes 4 0x01010000) (1 ∷ []) ≡ ok (([], more), ([], more))
+unfolding bothWalks bytes
+silent = refl
+
+-- ---- scripts
 
 -- an instruction to tell by its register, and an error jump
 abbrev pub inc : ℕ → Instruction
@@ -62,19 +109,6 @@ three-read′ = refl
 pub three-walked′ : walkSections (combineSections (cleanSections (sectionsOf three))) 3 (0 ∷ 0 ∷ 0 ∷ 1 ∷ []) 20 ≡ expected′
 unfolding three expected′ sectionsOf cleanSections combineSections
 three-walked′ = refl
-
--- empty lists, and statements behind a goto, as codegen.rs lowers them
-unfoldable pub four : Script
-four =
-    ite [] 3 (plain [] (goto [] 9 (plain [] nil))) (plain [] nil) (plain [] nil)
-    ∷ nil
-    ∷ plain [] (ite [] 4 nil (ite [] 5 (plain [] nil) nil nil) nil)
-    ∷ goto [] 1 (ite [] 6 nil nil (plain [] nil))
-    ∷ []
-
-pub four-same : codegen four ≡ sectionsOf four
-unfolding four codegen sectionsOf
-four-same = refl
 
 -- replacement takes all lines' first sections before the others
 unfoldable pub twins : Script
