@@ -19,8 +19,8 @@ use Rattle.rules.specs.Clean.{renNext, ren, keep, rank, cleanSections}
 use Rattle.rules.specs.Tables.{all}
 use Rattle.rules.specs.Operations.{fixedHere, jumpFixed, jumpsFixed, nextAhead, allAhead}
 use Rattle.rules.specs.Demand.{All}
-use Rattle.walks.specs.Lower.{length-low, length-orEmpty, SameAs, Stands, fits-cast, fits-left, fits-right, base, line-fits, at-head, fits-tail, nextLine-lt, lower-fixed, heads-length, length-tailOf}
-use Rattle.walks.specs.Combine.{Fixed, Ready}
+use Rattle.walks.specs.LowerWalk.{length-low, length-orEmpty, SameAs, Stands, fits-cast, fits-left, fits-right, base, line-fits, at-head, fits-tail, nextLine-lt, lower-fixed, heads-length, length-tailOf}
+use Rattle.walks.specs.CombineWalk.{Fixed, Ready}
 use Rattle.walks.specs.Fits.{AllAt}
 use Rattle.walks.specs.Shape.{all-of}
 

@@ -9,6 +9,7 @@ use native.Mathlib.Nat.{le-of-suc-le-suc, not-suc-le-zero}
 use native.Mathlib.Omega.{arith}
 use lib.ListN.{length, getD, take, set, length-take}
 use lib.Seq.{getD-take}
+use Rattle.rules.specs.Refusal as Refusal
 use Rattle.rules.specs.Bits.{Res, refused, ok}
 use Rattle.rules.specs.Tree.{Tree}
 use Rattle.rules.specs.Parse.{parse}
@@ -22,10 +23,10 @@ use Rattle.rules.specs.Combine.{refsNext, joined, pair, combineAt, combineFuel,
 use Rattle.rules.specs.Lowered.{Options, lowered, finished}
 use Rattle.rules.specs.Operations.{fixedHere, jumpsFixed, cleanIn, allAhead, combineIn}
 use Rattle.rules.specs.Demand.{All, Demand}
-use Rattle.walks.specs.Clean.{rank-low}
-use Rattle.walks.specs.Combine.{true≢false, cond-hit, lt-or-le, fall-low, fall-high, Fixed, fixed-at, Ready, Pair, Came, came, Set, taken, kept, set-here, clear-at, start-at, pair-below, combine-length, combine-along, combine-keeps}
-use Rattle.walks.specs.Lower.{lower-fixed}
-use Rattle.walks.specs.Demand.{lowered-sections, demand3}
+use Rattle.walks.specs.CleanWalk.{rank-low}
+use Rattle.walks.specs.CombineWalk.{true≢false, cond-hit, lt-or-le, fall-low, fall-high, Fixed, fixed-at, Ready, Pair, Came, came, Set, taken, kept, set-here, clear-at, start-at, pair-below, combine-length, combine-along, combine-keeps}
+use Rattle.walks.specs.LowerWalk.{lower-fixed}
+use Rattle.walks.specs.DemandProof.{lowered-sections, demand3}
 use Rattle.walks.specs.LimitsTree.{Limits, limits}
 use Rattle.walks.specs.Fits.{AllAt, MachineFit, SectFit, NextFit}
 use Rattle.walks.specs.Targets.{JumpBelow, Aims, clean-aims}
@@ -148,7 +149,7 @@ combine-again o s t e l =
     let ahead : allAhead (m .sections) 0 (m .sections) ≡ true = ap (λ (z : List SectionCode). allAhead z 0 z) f ∙ F-ahead o t lim in
     let stays : combineSections (m .sections) ≡ m .sections = combine-stays (m .sections) (demand3 o s t e [] .noPair) in
     ap₂
-    (λ (a b : Bool). let y : Res Machine = elim b [ false ↦ refused 15 | true ↦ ok (combined m) ] in elim a as (λ z. Res Machine) [ false ↦ refused 14 | true ↦ y ])
+    (λ (a b : Bool). let y : Res Machine = elim b [ false ↦ refused Refusal.linksBack | true ↦ ok (combined m) ] in elim a as (λ z. Res Machine) [ false ↦ refused Refusal.isUnfixed | true ↦ y ])
     fixed
     ahead
     ∙ ap (λ (z : List SectionCode). ok (record { lines = m .lines; sections = z; numbers = m .numbers; strings = m .strings; pool = m .pool; values = m .values; names = m .names })) stays
@@ -164,4 +165,4 @@ clean-again o s t e l =
     ap (λ (z : List SectionCode). all fixedHere (take (m .lines) z) && all (jumpsFixed z) z) f
     ∙ ap₂ (λ (a b : Bool). a && b) (all-fixed (take (m .lines) (F o t lim)) (fixed-take o t lim (m .lines) (F o t lim) (F-ready o t lim .fixed))) (all-true (jumpsFixed (F o t lim)) (F o t lim) (sects-test (F o t lim) (F o t lim) (sects-jumps o t lim (F o t lim) (F-aims o t lim))))
     in
-    ap (λ (b : Bool). elim b as (λ z. Res Machine) [ true ↦ ok (cleaned m) | false ↦ refused 13 ]) test
+    ap (λ (b : Bool). elim b as (λ z. Res Machine) [ true ↦ ok (cleaned m) | false ↦ refused Refusal.needsUnfixed ]) test

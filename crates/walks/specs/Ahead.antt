@@ -16,8 +16,8 @@ use Rattle.rules.specs.Script.{Stmts, nil, plain, goto, ite, Script}
 use Rattle.rules.specs.Assemble.{nextLine, orOne, sectionsMade, ownCode, entry, link, condCode, inner, orEmpty, stmtSections, headOf, tailOf, lineSections, heads, tails, sectionsOf}
 use Rattle.rules.specs.Clean.{renNext, ren, keep, rank, cleanSections}
 use Rattle.rules.specs.Operations.{nextAhead, allAhead}
-use Rattle.walks.specs.Lower.{length-low, length-orEmpty, nextLine-lt, heads-length, length-tailOf}
-use Rattle.walks.specs.Combine.{true≢false}
+use Rattle.walks.specs.LowerWalk.{length-low, length-orEmpty, nextLine-lt, heads-length, length-tailOf}
+use Rattle.walks.specs.CombineWalk.{true≢false}
 use Rattle.walks.specs.Fits.{AllAt}
 
 -- Section p's successor is a line, or ahead.

@@ -8,6 +8,7 @@ use native.Mathlib.Omega.{arith}
 use lib.IntN.{ℤ, pos}
 use lib.ListN.{length, take, drop, replicate, length-append, length-map}
 use lib.Seq.{take-at, drop-at}
+use Rattle.rules.specs.Refusal as Refusal
 use Rattle.rules.specs.Bits.{Res, refused, ok, isOne}
 use Rattle.rules.specs.Tree.{Tree}
 use Rattle.rules.specs.Parse.{parse}
@@ -112,7 +113,7 @@ tables-back m f l h =
     (
     λ (z : Bool).
     elim z as (λ y. Res Machine) [
-      | false ↦ refused 12
+      | false ↦ refused Refusal.breaksRules
       | true ↦ ok (
           machineOf
           (m .lines)
@@ -169,13 +170,13 @@ built f fit s l u e = outer (parse s) refl e refl
     Ans = Res Counts × Tables
 
     made : Tree → Bool → Ans
-    made x b = elim b [ false ↦ (refused 11, l) | true ↦ (let m = f x in (ok (countsOf m), write (estimate (sizeOf x)) m l)) ]
+    made x b = elim b [ false ↦ (refused Refusal.noRoom, l) | true ↦ (let m = f x in (ok (countsOf m), write (estimate (sizeOf x)) m l)) ]
 
     answer : Res Tree → Ans
     answer r = elim r [ refused n ↦ (refused n, l) | ok x ↦ made x (holds l (estimate (sizeOf x))) ]
 
     inner : (x : Tree) → parse s ≡ ok x → (b : Bool) → made x b .0 ≡ ok u → build f s l .1 ≡ made x b .1 → Built f s l u
-    inner x p false q r = absurd (refused≢ok 11 u q)
+    inner x p false q r = absurd (refused≢ok Refusal.noRoom u q)
     inner x p true q r =
         let m = f x in
         let c : countsOf m ≡ u = ap (usedOf u) q in

@@ -62,7 +62,7 @@ pub record Small (u : Counts) : Type 0 where
   pub names : u .names ≤ 255
   pub values : u .values ≤ 6144
 
--- (b) All counts of the lowered machine are small.
+-- All counts of the lowered machine are small: far below 65,535.
 pub small : (o : Options) (s : List ℕ) (t : Tree) → parse s ≡ ok t → Small (countsOf (lowered o t))
 unfolding estimate sizeOf fresh countsOf lowered
 small o s t e =

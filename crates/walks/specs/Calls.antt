@@ -10,7 +10,7 @@ use Rattle.rules.specs.Tables.{Tables, Counts, countsOf, decode}
 use Rattle.rules.specs.Lowered.{Options, lowered, finished}
 use Rattle.rules.specs.Operations.{lower, finish}
 use Rattle.rules.specs.Demand.{Demand}
-use Rattle.walks.specs.Demand.{demand3}
+use Rattle.walks.specs.DemandProof.{demand3}
 use Rattle.walks.specs.Back.{Built, built}
 use Rattle.walks.specs.TreeFits.{lowered-fit, finished-fit}
 

@@ -18,8 +18,8 @@ use Rattle.rules.specs.Assemble.{condJump, nextLine}
 use Rattle.rules.specs.ReadScript.{Out, behind, erred, gone, stop, thenOn, andThen, readOwn, readGoto, readIf, readCond, read, onward, stepLine, readScript, readIns}
 use Rattle.rules.specs.Demand.{Walk, Meets, Fewer, SameFirst}
 use Rattle.walks.specs.Claim.{Alike}
-use Rattle.walks.specs.Combine.{lt-or-le}
-use Rattle.walks.specs.Lower.{nextLine-lt}
+use Rattle.walks.specs.CombineWalk.{lt-or-le}
+use Rattle.walks.specs.LowerWalk.{nextLine-lt}
 
 -- ---- outcomes do not grow; a lively list uses one or meets an instruction
 

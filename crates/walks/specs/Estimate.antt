@@ -19,10 +19,10 @@ use Rattle.rules.specs.Replace.{Rule, stays, goes, turns, number, result, blank
 use Rattle.rules.specs.Lowered.{Options, nameWords, spans, texts, assemble, lowered}
 use Rattle.rules.specs.Operations.{Size, sizeOf, estimate}
 use Rattle.rules.specs.Demand.{All}
-use Rattle.walks.specs.Lower.{length-low, length-tailOf, heads-length}
+use Rattle.walks.specs.LowerWalk.{length-low, length-tailOf, heads-length}
 use Rattle.walks.specs.Room.{Went}
 use Rattle.walks.specs.Own.{codeOf, sizes, codes, MadeAll, annotate-made}
-use Rattle.walks.specs.Demand.{numbers-stay, strings-stay, length-spans}
+use Rattle.walks.specs.DemandProof.{numbers-stay, strings-stay, length-spans}
 
 -- ---- sections
 
@@ -139,7 +139,7 @@ names-length o [] vs h = refl
 names-length o (n ∷ ns) [] h = absurd (omega arith)
 names-length o (n ∷ ns) (v ∷ vs) h = ap suc (names-length o ns vs (omega arith))
 
--- ---- (b) the lowered machine's counts and the estimates
+-- ---- the lowered machine's counts and the estimates
 
 pub record WithinEstimate (u e : Counts) : Type 0 where
   pub lines : u .lines ≡ e .lines

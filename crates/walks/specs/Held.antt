@@ -14,7 +14,7 @@ use Rattle.rules.specs.Tables.{Counts, countsOf, all, allCode, nameFits}
 use Rattle.rules.specs.Demand.{All, FieldBelow, FieldsBelow, RegistersBelow}
 use Rattle.walks.specs.Claim.{CodeGood, NextGood, SectGood}
 use Rattle.walks.specs.Jumps.{aimed-other}
-use Rattle.walks.specs.Combine.{true≢false}
+use Rattle.walks.specs.CombineWalk.{true≢false}
 use Rattle.walks.specs.Fits.{row-of, isPlace, Holds, Held, Counted, SectFit, NextFit, SpanFit, MachineFit}
 use Rattle.walks.specs.Targets.{JumpBelow, NextBelow, Aims, Loose}
 use Rattle.walks.specs.Shape.{all-at, numbered}

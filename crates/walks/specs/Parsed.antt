@@ -7,6 +7,7 @@ use native.Mathlib.Omega.{arith}
 use lib.Dec.{ltb, leb, eqb}
 use lib.ListN.{length}
 use borrow.Author.Tests.{ltb-true, leb-true}
+use Rattle.rules.specs.Refusal as Refusal
 use Rattle.rules.specs.Bits.{Res, refused, ok}
 use Rattle.rules.specs.Tree.{Name, Tree, Block}
 use Rattle.rules.specs.Constants.{mostBytes}
@@ -93,10 +94,10 @@ parsed s t e = go (leb (length s) mostBytes) refl e
     inner h (ok r) p q = record { bytes = h; at = r .1; is = p ∙ ap (λ (z : Tree). ok (z, r .1)) (ap (treeOf t) q) }
 
     go : (b : Bool) → leb (length s) mostBytes ≡ b → elim b [
-      | false ↦ refused 10
+      | false ↦ refused Refusal.tooLong
       | true ↦ elim (file s (record { pos = 0; nodes = 0 })) [ refused n ↦ refused n | ok r ↦ ok (r .0) ]
     ] ≡ ok t → Parsed s t
-    go false p q = absurd (refused≢ok 10 t q)
+    go false p q = absurd (refused≢ok Refusal.tooLong t q)
     go true p q = inner (leb-true (length s) 32768 p) (file s (record { pos = 0; nodes = 0 })) refl q
 
 pub some-line : (s : List ℕ) (t : Tree) → parse s ≡ ok t → 0 < length (t .lines)

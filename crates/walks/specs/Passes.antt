@@ -5,6 +5,7 @@ use mathlib.Core.List.{List, [], _∷_}
 use Prim.Native.Nat.{ℕ, _+_, _≤_, _<_}
 use native.Mathlib.Omega.{arith}
 use lib.ListN.{length, take}
+use Rattle.rules.specs.Refusal as Refusal
 use Rattle.rules.specs.Bits.{Res, refused, ok}
 use Rattle.rules.specs.Tree.{Tree}
 use Rattle.rules.specs.Parse.{parse}
@@ -20,18 +21,18 @@ use Rattle.walks.specs.Codegen.{codegen}
 use Rattle.rules.specs.Lowered.{Options, assemble, lowered, finished}
 use Rattle.rules.specs.Annotate.{annotate}
 use Rattle.rules.specs.Operations.{sizeOf, estimate, fixedHere, jumpsFixed, cleanIn, allAhead, combineIn}
-use Rattle.walks.specs.Clean.{rank-low}
-use Rattle.walks.specs.Combine.{Ready}
-use Rattle.walks.specs.CodegenIs.{codegen-is}
-use Rattle.walks.specs.Lower.{lower-fixed}
-use Rattle.walks.specs.Demand.{lowered-sections}
+use Rattle.walks.specs.CleanWalk.{rank-low}
+use Rattle.walks.specs.CombineWalk.{Ready}
+use Rattle.walks.specs.CodegenProof.{codegen-is}
+use Rattle.walks.specs.LowerWalk.{lower-fixed}
+use Rattle.walks.specs.DemandProof.{lowered-sections}
 use Rattle.walks.specs.LimitsTree.{Limits, limits}
 use Rattle.walks.specs.Estimate.{codeLen, code-length, WithinEstimate, estimated}
 use Rattle.walks.specs.TreeFits.{Sizes, pos, ready, finish-counts, lines-are}
 use Rattle.walks.specs.Accepts.{all-fixed, clean-test}
 use Rattle.walks.specs.Ahead.{all-test, clean-ahead}
 
--- (c) Cleaning accepts the lowered machine: 13 never occurs.
+-- Cleaning accepts the lowered machine: 13 never occurs.
 pub clean-accepts : (o : Options) (s : List ℕ) (t : Tree) → parse s ≡ ok t → (l : Tables) → cleanIn l (lowered o t) ≡ ok (cleaned (lowered o t))
 unfolding cleanIn
 clean-accepts o s t e l =
@@ -40,7 +41,7 @@ clean-accepts o s t e l =
     let test : (all fixedHere (take (m .lines) (m .sections)) && all (jumpsFixed (m .sections)) (m .sections)) ≡ true =
     ap₂ (λ (n : ℕ) (z : List SectionCode). all fixedHere (take n z) && all (jumpsFixed z) z) (lines-are o t lim) (lowered-sections o t) ∙ clean-test (script t) (pos o t lim)
     in
-    ap (λ (b : Bool). elim b as (λ z. Res Machine) [ true ↦ ok (cleaned m) | false ↦ refused 13 ]) test
+    ap (λ (b : Bool). elim b as (λ z. Res Machine) [ true ↦ ok (cleaned m) | false ↦ refused Refusal.needsUnfixed ]) test
 
 -- Combining accepts the cleaned machine: neither 14 nor 15 occurs. It gives the finished one.
 pub combine-accepts : (o : Options) (s : List ℕ) (t : Tree) → parse s ≡ ok t → (l : Tables) → combineIn l (cleaned (lowered o t)) ≡ ok (finished o t)
@@ -54,11 +55,11 @@ combine-accepts o s t e l =
     let fixed : all fixedHere (m .sections) ≡ true = ap (all fixedHere) c ∙ all-fixed (cleanSections (sectionsOf k)) (r .fixed) in
     let ahead : allAhead (m .sections) 0 (m .sections) ≡ true = ap (λ (z : List SectionCode). allAhead z 0 z) c ∙ all-test (cleanSections (sectionsOf k)) 0 (cleanSections (sectionsOf k)) (clean-ahead k (rank-low (length k) (pos o t lim) (sectionsOf k) (lower-fixed k (pos o t lim))) (r .starts)) in
     ap₂
-    (λ (a b : Bool). let y : Res Machine = elim b [ false ↦ refused 15 | true ↦ ok (combined m) ] in elim a as (λ z. Res Machine) [ false ↦ refused 14 | true ↦ y ])
+    (λ (a b : Bool). let y : Res Machine = elim b [ false ↦ refused Refusal.linksBack | true ↦ ok (combined m) ] in elim a as (λ z. Res Machine) [ false ↦ refused Refusal.isUnfixed | true ↦ y ])
     fixed
     ahead
 
--- (b) The finished machine keeps within the estimates too.
+-- The finished machine keeps within the estimates too.
 pub finished-estimated : (o : Options) (s : List ℕ) (t : Tree) → parse s ≡ ok t → WithinEstimate (countsOf (finished o t)) (estimate (sizeOf t))
 unfolding countsOf finished cleaned combined
 finished-estimated o s t e =
@@ -77,7 +78,7 @@ finished-estimated o s t e =
       names = w .names;
     }
 
--- (d) The assembled sections are those that codegen.rs's steps make: pushed, linked afterwards, and swapped.
+-- The assembled sections are those that codegen.rs's steps make: pushed, linked afterwards, and swapped.
 pub assembled-by-steps : (o : Options) (t : Tree) → assemble o t .sections ≡ codegen (annotate t .0)
 unfolding assemble
 assembled-by-steps o t = sym (codegen-is (annotate t .0))

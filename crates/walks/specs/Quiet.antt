@@ -17,7 +17,7 @@ use Rattle.rules.specs.Reading.{repAll, repFirst, repRest, firsts, rests, repSc
 use Rattle.rules.specs.Demand.{All, FieldsBelow, RegistersBelow}
 use Rattle.walks.specs.Claim.{CodeGood, Good, GoodTree, GoodWhole}
 use Rattle.walks.specs.Jumps.{aimed-other}
-use Rattle.walks.specs.Combine.{true≢false}
+use Rattle.walks.specs.CombineWalk.{true≢false}
 use Rattle.walks.specs.Room.{adds, Ok}
 use Rattle.walks.specs.Own.{Whole}
 
@@ -194,7 +194,7 @@ module _ (u : Counts) (p : ℕ) where
   rests-good [] h σ = tt
   rests-good (s ∷ t) h σ = (rest-good s (h .0) σ, rests-good t (h .1) (repRest p σ s .1))
 
-  -- (a) Replacement leaves the registers as they are.
+  -- Replacement leaves the registers as they are.
   pub script-quiet : (t : Script) → All (Whole u) t → (σ : Regs) → repScript p σ t .1 ≡ σ
   script-quiet t h σ = let x = firsts p σ t in rests-quiet (x .0) (firsts-half t h σ) (x .1) ∙ firsts-quiet t h σ
 

@@ -16,8 +16,8 @@ use Rattle.rules.specs.Assemble.{nextLine, sectionsMade, stmtSections, headOf, 
 use Rattle.rules.specs.Clean.{renIns, renNext, ren, keep, rank, cleanSections}
 use Rattle.rules.specs.Combine.{hit, refsNext, refsIns, refsCode, joined, combineAt, combineSections}
 use Rattle.rules.specs.Demand.{All}
-use Rattle.walks.specs.Lower.{heads-length}
-use Rattle.walks.specs.Combine.{cond-hit, lt-or-le, fall-low, fall-high, Ready, Pair, Came, came, Set, taken, kept, set-here, clear-at, pair-below, combine-ready, combine-length, combine-along}
+use Rattle.walks.specs.LowerWalk.{heads-length}
+use Rattle.walks.specs.CombineWalk.{cond-hit, lt-or-le, fall-low, fall-high, Ready, Pair, Came, came, Set, taken, kept, set-here, clear-at, pair-below, combine-ready, combine-length, combine-along}
 use Rattle.walks.specs.Fits.{loose, AllAt}
 use Rattle.walks.specs.Targets.{JumpBelow, NextBelow, Aims, Loose, tails-loose}
 

@@ -15,7 +15,7 @@ use Rattle.rules.specs.ReadScript.{Out, behind, erred, gone, stop, thenOn, andT
 use Rattle.rules.specs.Demand.{Walk, All, prune}
 use Rattle.walks.specs.Claim.{Safe, CodeGood, Good, GoodTree, GoodEnd}
 use Rattle.walks.specs.Walks.{Below, Within}
-use Rattle.walks.specs.Combine.{lt-or-le}
+use Rattle.walks.specs.CombineWalk.{lt-or-le}
 
 -- ---- a safe walk enters sections of the machine only
 

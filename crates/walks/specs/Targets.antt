@@ -14,7 +14,7 @@ use Rattle.rules.specs.Script.{Stmts, nil, plain, goto, ite, Script}
 use Rattle.rules.specs.Assemble.{nextLine, orOne, sectionsMade, ownCode, entry, link, condJump, condCode, inner, orEmpty, stmtSections, headOf, tailOf, lineSections, heads, tails, sectionsOf}
 use Rattle.rules.specs.Clean.{renIns, renNext, ren, keep, rank, cleanSections}
 use Rattle.rules.specs.Demand.{All}
-use Rattle.walks.specs.Lower.{nextLine-lt}
+use Rattle.walks.specs.LowerWalk.{nextLine-lt}
 use Rattle.walks.specs.Own.{sizes}
 use Rattle.walks.specs.Fits.{loose}
 

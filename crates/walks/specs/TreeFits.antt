@@ -25,13 +25,13 @@ use Rattle.rules.specs.Combine.{without, joined, combineAt, combineSections, co
 use Rattle.rules.specs.Lowered.{Options, spans, texts, lowered, finished}
 use Rattle.rules.specs.Demand.{All, RegistersBelow}
 use Rattle.walks.specs.Claim.{SectGood}
-use Rattle.walks.specs.Clean.{clean-ready}
-use Rattle.walks.specs.Combine.{Ready, Kept, Pair, pair-below, combine-length, combine-along, combine-keeps}
-use Rattle.walks.specs.Lower.{lower-fixed, lower-starts}
-use Rattle.walks.specs.Words.{lower-good, clean-good, combined-good}
+use Rattle.walks.specs.CleanWalk.{clean-ready}
+use Rattle.walks.specs.CombineWalk.{Ready, Kept, Pair, pair-below, combine-length, combine-along, combine-keeps}
+use Rattle.walks.specs.LowerWalk.{lower-fixed, lower-starts}
+use Rattle.walks.specs.FinishedCode.{lower-good, clean-good, combined-good}
 use Rattle.walks.specs.Room.{Room, roomOf, Fine, NameBelow}
 use Rattle.walks.specs.Own.{sizes, annotate-made}
-use Rattle.walks.specs.Demand.{strings-stay, numbers-stay, length-spans, good-for, lowered-sections, script-lines}
+use Rattle.walks.specs.DemandProof.{strings-stay, numbers-stay, length-spans, good-for, lowered-sections, script-lines}
 use Rattle.walks.specs.LimitsTree.{Limits, limits}
 use Rattle.walks.specs.Estimate.{codeLen, code-length, sections-length}
 use Rattle.walks.specs.Bounds.{Small, small}
@@ -274,7 +274,7 @@ finished-fit o s t e =
     (subst (SectsFit (length (script t)) (countsOf m)) ls (finish-fit o t l (countsOf m) (the-room o t l m q)))
     (subst (Sizes (length (script t)) (length (sectionsOf (script t))) (codeLen (sectionsOf (script t)))) ls (finish-counts o t l))
 
--- (c) Their words keep the rules.
+-- Their words keep the rules.
 pub lowered-fits : (o : Options) (s : List ℕ) (t : Tree) → parse s ≡ ok t → fits (encode (lowered o t)) (countsOf (lowered o t)) ≡ true
 lowered-fits o s t e = encoded-fits (lowered o t) (lowered-fit o s t e)
 

@@ -13,21 +13,21 @@ use Rattle.rules.specs.Combine.{combineSections, pair}
 use Rattle.rules.specs.Script.{Script}
 use Rattle.rules.specs.Assemble.{sectionsOf}
 use Rattle.rules.specs.ReadScript.{readScript}
-use Rattle.walks.specs.Words.{finish}
+use Rattle.walks.specs.FinishedCode.{finish}
 use Rattle.rules.specs.Demand.{SameWalk, prune}
 use Rattle.walks.specs.Claim.{Alike, Safe, SectGood, Demand3}
 use Rattle.walks.specs.Walks.{Within, within-trans, covers-within, covers-back, within-safe, same-walk}
-use Rattle.walks.specs.Combine.{Ready, Kept, combine-keeps, combine-ends}
-use Rattle.walks.specs.Clean.{clean-same, clean-ready}
+use Rattle.walks.specs.CombineWalk.{Ready, Kept, combine-keeps, combine-ends}
+use Rattle.walks.specs.CleanWalk.{clean-same, clean-ready}
 use Rattle.walks.specs.Codegen.{codegen}
-use Rattle.walks.specs.CodegenIs.{codegen-is}
+use Rattle.walks.specs.CodegenProof.{codegen-is}
 use Rattle.rules.specs.Replace.{Regs, replaceSections}
 use Rattle.rules.specs.Reading.{repScript}
-use Rattle.walks.specs.Replace.{length-rep, lower-rep}
+use Rattle.walks.specs.ReplaceScript.{length-rep, lower-rep}
 use Rattle.walks.specs.Count.{agree}
-use Rattle.walks.specs.Words.{everywhere, getD-good, finish-good}
+use Rattle.walks.specs.FinishedCode.{everywhere, getD-good, finish-good}
 use Rattle.walks.specs.Sides.{safe-enters, run-prune, within-good}
-use Rattle.walks.specs.Lower.{lower-covers, lower-fixed, lower-starts, tree-safe}
+use Rattle.walks.specs.LowerWalk.{lower-covers, lower-fixed, lower-starts, tree-safe}
 
 module _ (t : Script) (pos : 0 < length t) where
   ready : Ready (length t) (cleanSections (sectionsOf t))
@@ -52,7 +52,15 @@ module _ (t : Script) (pos : 0 < length t) where
     low-safe : Safe (walkSections (sectionsOf t) (length t) os)
     low-safe = within-safe (walkSections (sectionsOf t) (length t) os) (readScript t os) low-to-tree (tree-safe t os)
 
-    clean-is : (k : ℕ) → walkSections (cleanSections (sectionsOf t)) (length t) os k ≡ walkSections (sectionsOf t) (length t) os k
+    low-alike : Alike (walkSections (sectionsOf t) (length t) os) (readScript t os)
+    low-alike = same-walk (walkSections (sectionsOf t) (length t) os) (readScript t os) low-to-tree tree-to-low
+
+    -- The lowered sections are walked as the script is read,
+    pub low-same : SameWalk (walkSections (sectionsOf t) (length t) os) (readScript t os)
+    low-same = record { firsts = agree t pos os (walkSections (sectionsOf t) (length t) os) low-alike; stops = low-alike .stops }
+
+    -- and cleaning keeps each step.
+    pub clean-is : (k : ℕ) → walkSections (cleanSections (sectionsOf t)) (length t) os k ≡ walkSections (sectionsOf t) (length t) os k
     clean-is = clean-same (length t) pos (sectionsOf t) (lower-fixed t pos) os low-safe
 
     clean-to-tree : Within (walkSections (cleanSections (sectionsOf t)) (length t) os) (readScript t os)

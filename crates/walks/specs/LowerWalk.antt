@@ -19,7 +19,7 @@ use Rattle.rules.specs.ReadScript.{Out, behind, erred, gone, stop, thenOn, andT
 use Rattle.walks.specs.Claim.{Safe}
 use Rattle.walks.specs.Walks.{Goes, Halts, goes-here, goes-step, halts-step, goes-goes, goes-halts, Match, m-to, m-done, covers, Covers}
 use Rattle.walks.specs.Renumber.{inside-append}
-use Rattle.walks.specs.Combine.{true≢false}
+use Rattle.walks.specs.CombineWalk.{true≢false}
 use Rattle.walks.specs.Jumps.{shown-aimed}
 
 -- ---- how many sections
@@ -410,7 +410,7 @@ module _ (t : Script) (pos : 0 < length t) where
       to-match a h (y .0) (y .1) refl (line-follows (sectionsOf t) (length t) s (nextLine L u) u (base L t u) (at-head u h) (fits-tail u h) (a .1))
       )
 
-  -- (i) The lowered machine's walk is the tree's.
+  -- The lowered machine's walk is the tree's.
   pub lower-covers : (os : List ℕ) → Covers (readScript t os) (walkSections (sectionsOf t) (length t) os)
   unfolding R
   lower-covers os k = covers (stepLine t) (stepSection (sectionsOf t) (length t)) R sim k (0, os) (0, os) (refl, pos)

@@ -14,7 +14,7 @@ use Rattle.rules.specs.Clean.{ren, keep, rank, cleanSections}
 use Rattle.walks.specs.Claim.{Safe}
 use Rattle.walks.specs.Walks.{Within}
 use Rattle.walks.specs.Renumber.{mapRes, mapLeg, enter-ren}
-use Rattle.walks.specs.Combine.{Fixed, fixed-map, Ready, Kept, true≢false}
+use Rattle.walks.specs.CombineWalk.{Fixed, fixed-map, Ready, Kept, true≢false}
 
 abbrev pub IsFixedAt : List SectionCode → ℕ → Type 0
 IsFixedAt m t = isFixed (getD m t absent .success) ≡ true
@@ -99,7 +99,7 @@ module _ (L : ℕ) (pos : 0 < L) (m : List SectionCode) (stmtSections : (t : ℕ
       go (to z) e ih = rw e (ap (pre l) (ih z (safe-next s z l (ap (λ (r : Step State). (l, r)) e) safe)))
       go (done f) e ih = rw e
 
-  -- (ii) Cleaning keeps the walk of a machine whose walk is safe and whose first L sections are fixed line starts.
+  -- Cleaning keeps the walk of a machine whose walk is safe and whose first L sections are fixed line starts.
   pub clean-same : (os : List ℕ) → Safe (walkSections m L os) → (k : ℕ) → walkSections (cleanSections m) L os k ≡ walkSections m L os k
   unfolding SafeAt
   clean-same os safe k = ap (λ (n : ℕ). run (stepSection (cleanSections m) L) k (n, os)) (sym (rank-low 0 pos)) ∙ clean-run k (0, os) safe

@@ -20,11 +20,11 @@ use Rattle.rules.specs.Lowered.{Options, spans, texts, assemble, lowered, finis
 use Rattle.rules.specs.Walk.{walk, enters, entered}
 use Rattle.rules.specs.Demand.{All, Demand, RegistersBelow, GotoBelow}
 use Rattle.walks.specs.Claim.{Demand3, SectGood, NextGood, CodeGood, GoodWhole}
-use Rattle.walks.specs.Replace.{lower-rep, length-rep}
+use Rattle.walks.specs.ReplaceScript.{lower-rep, length-rep}
 use Rattle.walks.specs.Room.{Room, roomOf, Went}
 use Rattle.walks.specs.Own.{Whole, whole-grows, MadeAll, annotate-made}
 use Rattle.walks.specs.Quiet.{script-quiet, script-good, tree-good}
-use Rattle.walks.specs.Finish.{demand3-replaced}
+use Rattle.walks.specs.FinishWalk.{demand3-replaced}
 use Rattle.rules.specs.Bits.{Res, ok}
 use Rattle.rules.specs.Parse.{parse}
 use Rattle.walks.specs.Parsed.{some-line}
@@ -60,7 +60,7 @@ module _ (o : Options) (t : Tree) where
   unfolding ss g
   regs-stay = ap (λ (x : List SectionCode × Regs). x .1) (lower-rep pl σ ss) ∙ script-quiet (roomOf g) pl ss (annotate-made t .whole) σ
 
-  -- (a) Replacement adds no number and no string register.
+  -- Replacement adds no number and no string register.
   pub numbers-stay : lowered o t .numbers ≡ assemble o t .numbers
   unfolding lowered ss g pl σ
   numbers-stay = ap (λ (r : Regs). r .numbers) regs-stay

@@ -458,6 +458,25 @@ pub record Kept (L : ℕ) (m n : List SectionCode) : Type 0 where
   pub back : (os : List ℕ) → Within (walkSections n L os) (walkSections m L os)
 
 module _ (L : ℕ) (pos : 0 < L) where
+  -- A join preserves every walk of a machine that is ready, which it stays.
+  pub join-keeps : (m : List SectionCode) → Ready L m → (i j : ℕ) → Pair m i j → Kept L m (combineAt m i j)
+  join-keeps m r i j pr =
+      let n = combineAt m i j in
+      let c = combine-covers L pos m r i j pr in
+      record {
+        ready = combine-ready L pos m r i j pr;
+        there = λ os. covers-back (stepSection m L) (0, os) (walkSections n L os) (c os);
+        back = λ os. covers-within (walkSections n L os) (walkSections m L os) (c os);
+      }
+
+  kept-trans : (l m n : List SectionCode) → Kept L l m → Kept L m n → Kept L l n
+  kept-trans l m n p q =
+      record {
+        ready = q .ready;
+        there = λ os. within-trans (walkSections l L os) (walkSections m L os) (walkSections n L os) (p .there os) (q .there os);
+        back = λ os. within-trans (walkSections n L os) (walkSections m L os) (walkSections l L os) (q .back os) (p .back os);
+      }
+
   kept-self : (m : List SectionCode) → Ready L m → Kept L m m
   kept-self m r = record { ready = r; there = λ os k. (k, inl refl); back = λ os k. (k, inl refl) }
 
@@ -468,21 +487,9 @@ module _ (L : ℕ) (pos : 0 < L) where
       go : (o : Option (ℕ × ℕ)) → pair m ≡ o → ((n : List SectionCode) → Ready L n → Kept L n (combineFuel k n)) → Kept L m (combineFuel (suc k) m)
       go none e ih = rw (e, combineFuel) (kept-self m r)
       go (some p) e ih =
-          let i = p .0 in
-          let j = p .1 in
-          let pr = pair-found m p e in
-          let n = combineAt m i j in
-          let c = combine-covers L pos m r i j pr in
-          let z = ih n (combine-ready L pos m r i j pr) in
-          rw
-          (e, combineFuel)
-          (
-          record {
-            ready = z .ready;
-            there = λ os. within-trans (walkSections m L os) (walkSections n L os) (walkSections (combineFuel k n) L os) (covers-back (stepSection m L) (0, os) (walkSections n L os) (c os)) (z .there os);
-            back = λ os. within-trans (walkSections (combineFuel k n) L os) (walkSections n L os) (walkSections m L os) (z .back os) (covers-within (walkSections n L os) (walkSections m L os) (c os));
-          }
-          )
+          let n = combineAt m (p .0) (p .1) in
+          let z = join-keeps m r (p .0) (p .1) (pair-found m p e) in
+          rw (e, combineFuel) (kept-trans m n (combineFuel k n) z (ih n (z .ready)))
 
   -- What every joining keeps, combining keeps.
   along-fuel : (Q : List SectionCode → Type 0) → ((m : List SectionCode) → Ready L m → (i j : ℕ) → Pair m i j → Q m → Q (combineAt m i j)) → (k : ℕ) (m : List SectionCode) → Ready L m → Q m → Q (combineFuel k m)
@@ -510,7 +517,7 @@ module _ (L : ℕ) (pos : 0 < L) where
           let pr = pair-found m p e in
           rw (e, combineFuel) (ih (combineAt m (p .0) (p .1)) (combine-ready L pos m r (p .0) (p .1) pr) (omega (arith, combine-length L pos m r (p .0) (p .1) pr)))
 
-  -- (iii) Combining keeps the walk of every machine that is ready, and leaves no pair.
+  -- Combining keeps the walk of every machine that is ready, and leaves no pair.
   pub combine-keeps : (m : List SectionCode) → Ready L m → Kept L m (combineSections m)
   unfolding combineSections
   combine-keeps m r = kept-fuel (length m) m r
