@@ -49,38 +49,33 @@ deep = refl
 unfoldable pub lent : Tables
 lent = record { sections = replicate 6 9; instrs = replicate 19 9; numbers = replicate 5 (pos 9); strings = replicate 2 9; pool = replicate 3 9; names = replicate 2 9 }
 
--- two sections: the line's, and the placeholder
-pub lowered-words : lower defaults stringFile lent ≡ (
-  ok (record { lines = 1; sections = 2; instrs = 2; numbers = 0; strings = 1; pool = 2; names = 1; values = 2 }),
-  record {
-    sections = 0x8000000000008000 ∷ 0xBFFFC00080000000 ∷ 0 ∷ 0 ∷ 0 ∷ 9 ∷ [];
-    instrs = 0x1800000000000000 ∷ 0x1000000004000000 ∷ replicate 16 0 ++ (9 ∷ []);
-    numbers = pos 0 ∷ pos 0 ∷ pos 0 ∷ pos 0 ∷ pos 9 ∷ [];
-    strings = 0x400 ∷ 9 ∷ [];
-    pool = 97 ∷ 98 ∷ 9 ∷ [];
-    names = 1 ∷ 9 ∷ [];
-  },
-)
-unfolding lower defaults stringFile lent
+-- the tables afterwards, by their sections; and the counts
+unfoldable pub filled : List ℕ → Tables
+filled ss = record {
+  sections = ss ++ (9 ∷ []);
+  instrs = 0x1800000000000000 ∷ 0x1000000004000000 ∷ replicate 16 0 ++ (9 ∷ []);
+  numbers = replicate 4 (pos 0) ++ (pos 9 ∷ []);
+  strings = 0x400 ∷ 9 ∷ [];
+  pool = 97 ∷ 98 ∷ 9 ∷ [];
+  names = 1 ∷ 9 ∷ [];
+}
+
+unfoldable pub filledCounts : ℕ → Counts
+filledCounts n = record { lines = 1; sections = n; instrs = 2; numbers = 0; strings = 1; pool = 2; names = 1; values = 2 }
+
+-- two sections, the line's and the placeholder
+pub lowered-words : lower defaults stringFile lent ≡ (ok (filledCounts 2), filled (0x8000000000008000 ∷ 0xBFFFC00080000000 ∷ 0 ∷ 0 ∷ 0 ∷ []))
+unfolding lower defaults stringFile lent filled filledCounts
 lowered-words = refl
 
-pub finished-words : finish defaults stringFile lent ≡ (
-  ok (record { lines = 1; sections = 1; instrs = 2; numbers = 0; strings = 1; pool = 2; names = 1; values = 2 }),
-  record {
-    sections = 0x8000000000008000 ∷ 0 ∷ 0 ∷ 0 ∷ 0 ∷ 9 ∷ [];
-    instrs = 0x1800000000000000 ∷ 0x1000000004000000 ∷ replicate 16 0 ++ (9 ∷ []);
-    numbers = pos 0 ∷ pos 0 ∷ pos 0 ∷ pos 0 ∷ pos 9 ∷ [];
-    strings = 0x400 ∷ 9 ∷ [];
-    pool = 97 ∷ 98 ∷ 9 ∷ [];
-    names = 1 ∷ 9 ∷ [];
-  },
-)
-unfolding finish defaults stringFile lent
+pub finished-words : finish defaults stringFile lent ≡ (ok (filledCounts 1), filled (0x8000000000008000 ∷ 0 ∷ 0 ∷ 0 ∷ 0 ∷ []))
+unfolding finish defaults stringFile lent filled filledCounts
 finished-words = refl
 
 -- a table of 17 instructions is too short
 unfoldable pub short : Tables
-short = record { sections = replicate 6 9; instrs = replicate 17 9; numbers = replicate 5 (pos 9); strings = replicate 2 9; pool = replicate 3 9; names = replicate 2 9 }
+unfolding lent
+short = record { sections = lent .sections; instrs = replicate 17 9; numbers = lent .numbers; strings = lent .strings; pool = lent .pool; names = lent .names }
 
 pub no-room : lower defaults stringFile short ≡ (refused 11, short)
 unfolding lower defaults stringFile short

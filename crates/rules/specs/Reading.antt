@@ -50,21 +50,20 @@ repRest p r (ite o c t f s) =
     let y = repAll p (b .1) s in
     (ite o c (a .0) (b .0) (y .0), y .1)
 
--- the lines' first statements
-abbrev pub firsts : ℕ → Regs → Script → Script × Regs
-firsts p r [] = ([], r)
-firsts p r (s ∷ t) =
-    let x = repFirst p r s in
-    let y = firsts p (x .1) t in
+-- line by line
+abbrev pub eachLine : (Regs → Stmts → Stmts × Regs) → Regs → Script → Script × Regs
+eachLine f r [] = ([], r)
+eachLine f r (s ∷ t) =
+    let x = f r s in
+    let y = eachLine f (x .1) t in
     (x .0 ∷ y .0, y .1)
 
--- the others, line by line
+-- the lines' first statements; the others
+abbrev pub firsts : ℕ → Regs → Script → Script × Regs
+firsts p r t = eachLine (repFirst p) r t
+
 abbrev pub rests : ℕ → Regs → Script → Script × Regs
-rests p r [] = ([], r)
-rests p r (s ∷ t) =
-    let x = repRest p r s in
-    let y = rests p (x .1) t in
-    (x .0 ∷ y .0, y .1)
+rests p r t = eachLine (repRest p) r t
 
 -- the lines' first sections come before all others
 abbrev pub repScript : ℕ → Regs → Script → Script × Regs

@@ -177,88 +177,48 @@ all-set P [] n a p q = q
 all-set P (x ∷ l) zero a p q = (p, q .1)
 all-set P (x ∷ l) (suc n) a p q = (q .0, all-set P l n a p (q .1))
 
-pub went-here : (g : CodegenData) → Fine g → Went (cost 0 0 0 0 0) g g
-went-here g f =
+-- What a change makes, number by number, is what it costs.
+grew : {c : Cost} {g h : CodegenData} → length (h .numbers) ≡ length (g .numbers) + c .n → length (h .instrs) ≡ length (g .instrs) + c .k → h .values ≡ g .values + c .v
+    → length (h .strings) ≡ length (g .strings) + c .s → length (texts (h .strings)) ≡ length (texts (g .strings)) + c .p → length (h .names) ≡ length (g .names) → Fine h → Went c g h
+grew n k v s p m f =
     record {
       numbers-up = omega arith;
       numbers-most = omega arith;
       code-most = omega arith;
       values-up = omega arith;
       values-most = omega arith;
-      strings-are = omega arith;
-      pool-is = omega arith;
-      names-are = refl;
+      strings-are = s;
+      pool-is = p;
+      names-are = m;
       fine = f;
     }
 
+pub went-here : (g : CodegenData) → Fine g → Went (cost 0 0 0 0 0) g g
+went-here g f = grew (omega arith) (omega arith) (omega arith) (omega arith) (omega arith) refl f
+
 pub went-emit : (g : CodegenData) (i : Instruction) → Fine g → Ok (roomOf g) i → Went (cost 0 1 0 0 0) g (emit i g .1)
 went-emit g i f o =
-    record {
-      numbers-up = omega arith;
-      numbers-most = omega arith;
-      code-most = omega (arith, length-append (g .instrs) (i ∷ []));
-      values-up = omega arith;
-      values-most = omega arith;
-      strings-are = omega arith;
-      pool-is = omega arith;
-      names-are = refl;
-      fine = record { instrs = all-append (Ok (roomOf g)) (g .instrs) (i ∷ []) (f .instrs) (o, tt); names = f .names };
-    }
+    grew (omega arith) (omega (arith, length-append (g .instrs) (i ∷ []))) (omega arith) (omega arith) (omega arith) refl
+    (record { instrs = all-append (Ok (roomOf g)) (g .instrs) (i ∷ []) (f .instrs) (o, tt); names = f .names })
 
 pub went-num : (g : CodegenData) (z : ℤ) → Fine g → Went (cost 1 0 0 0 0) g (newNum z g .1)
 went-num g z f =
     let h = newNum z g .1 in
     let l : length (g .numbers ++ (z ∷ [])) ≡ suc (length (g .numbers)) = simp length-append (omega arith) in
-    record {
-      numbers-up = omega arith;
-      numbers-most = omega arith;
-      code-most = omega arith;
-      values-up = omega arith;
-      values-most = omega arith;
-      strings-are = omega arith;
-      pool-is = omega arith;
-      names-are = refl;
-      fine = record {
-        instrs = code-grows (roomOf g) (roomOf h) (record { numbers = omega arith; strings = omega arith; values = omega arith }) (g .instrs) (f .instrs);
-        names = f .names;
-      };
-    }
+    grew (omega arith) (omega arith) (omega arith) (omega arith) (omega arith) refl (record { instrs = code-grows (roomOf g) (roomOf h) (record { numbers = omega arith; strings = omega arith; values = omega arith }) (g .instrs) (f .instrs); names = f .names })
 
 pub went-val : (g : CodegenData) → Fine g → Went (cost 0 0 1 0 0) g (newVal g .1)
 went-val g f =
     let h = newVal g .1 in
-    record {
-      numbers-up = omega arith;
-      numbers-most = omega arith;
-      code-most = omega arith;
-      values-up = omega arith;
-      values-most = omega arith;
-      strings-are = omega arith;
-      pool-is = omega arith;
-      names-are = refl;
-      fine = record {
-        instrs = code-grows (roomOf g) (roomOf h) (record { numbers = omega arith; strings = omega arith; values = omega arith }) (g .instrs) (f .instrs);
-        names = names-grow (g .values) (h .values) (omega arith) (g .names) (f .names);
-      };
-    }
+    grew (omega arith) (omega arith) (omega arith) (omega arith) (omega arith) refl
+    (record { instrs = code-grows (roomOf g) (roomOf h) (record { numbers = omega arith; strings = omega arith; values = omega arith }) (g .instrs) (f .instrs); names = names-grow (g .values) (h .values) (omega arith) (g .names) (f .names) })
 
 pub went-bind : (g : CodegenData) (x : ℕ) → Fine g → Went (cost 0 0 1 0 0) g (bindName x g .1)
 went-bind g x f =
     let h = bindName x g .1 in
-    record {
-      numbers-up = omega arith;
-      numbers-most = omega arith;
-      code-most = omega arith;
-      values-up = omega arith;
-      values-most = omega arith;
-      strings-are = omega arith;
-      pool-is = omega arith;
-      names-are = length-set (g .names) x (some (g .values));
-      fine = record {
-        instrs = code-grows (roomOf g) (roomOf h) (record { numbers = omega arith; strings = omega arith; values = omega arith }) (g .instrs) (f .instrs);
-        names = all-set (NameBelow (suc (g .values))) (g .names) x (some (g .values)) (omega arith) (names-grow (g .values) (h .values) (omega arith) (g .names) (f .names));
-      };
-    }
+    let n = names-grow (g .values) (h .values) (omega arith) (g .names) (f .names) in
+    grew (omega arith) (omega arith) (omega arith) (omega arith) (omega arith) (length-set (g .names) x (some (g .values)))
+    (record { instrs = code-grows (roomOf g) (roomOf h) (record { numbers = omega arith; strings = omega arith; values = omega arith }) (g .instrs) (f .instrs); names = all-set (NameBelow (suc (g .values))) (g .names) x (some (g .values)) (omega arith) n })
 
 pub length-texts : (ts : List (List ℕ)) (t : List ℕ) → length (texts (ts ++ (t ∷ []))) ≡ length (texts ts) + length t
 unfolding texts
@@ -269,17 +229,4 @@ pub went-str : (g : CodegenData) (t : List ℕ) → Fine g → Went (cost 0 0 0 
 went-str g t f =
     let h = newStr t g .1 in
     let l : length (g .strings ++ (t ∷ [])) ≡ suc (length (g .strings)) = simp length-append (omega arith) in
-    record {
-      numbers-up = omega arith;
-      numbers-most = omega arith;
-      code-most = omega arith;
-      values-up = omega arith;
-      values-most = omega arith;
-      strings-are = omega arith;
-      pool-is = length-texts (g .strings) t;
-      names-are = refl;
-      fine = record {
-        instrs = code-grows (roomOf g) (roomOf h) (record { numbers = omega arith; strings = omega arith; values = omega arith }) (g .instrs) (f .instrs);
-        names = f .names;
-      };
-    }
+    grew (omega arith) (omega arith) (omega arith) (omega arith) (length-texts (g .strings) t) refl (record { instrs = code-grows (roomOf g) (roomOf h) (record { numbers = omega arith; strings = omega arith; values = omega arith }) (g .instrs) (f .instrs); names = f .names })
