@@ -1,0 +1,30 @@
+use borrow.Author.Needs.{needs}
+use Rattle.words.proofs.instr.AnyReg.of.Statement.{statement}
+use Rattle.words.proofs.instr.AnyReg.of.Tie as tie
+use Rattle.words.proofs.instr.AnyReg.of.Reads as reads
+use Rattle.words.proofs.instr.AnyReg.of.Lts as lts
+
+-- src/instr.rt:143:38
+enum-told : tie.Need-enum-told
+enum-told c = search needs
+
+-- src/instr.rt:144:38
+enum-told-2 : tie.Need-enum-told-2
+enum-told-2 c = search needs
+
+-- src/instr.rt:139:5
+returns : tie.Need-returns
+returns c =
+    rw (c .enum-told .given .1)
+
+-- src/instr.rt:139:5
+returns-2 : tie.Need-returns-2
+returns-2 c =
+    rw (c .enum-told2 .given .1)
+
+-- src/instr.rt:139:5
+returns-3 : tie.Need-returns-3
+returns-3 c = ?
+
+pub of-spec : {M : Type 1} → statement M
+of-spec = tie.close (tie.spec enum-told enum-told-2 returns returns-2 returns-3)
