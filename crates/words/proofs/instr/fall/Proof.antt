@@ -1,3 +1,4 @@
+use Rattle.words.proofs.Laws.{minus-one}
 use borrow.Author.Tests.{lt-ltb, le-ltb}
 use borrow.Author.Needs.{needs}
 use Rattle.words.proofs.instr.fall.Statement.{statement}
@@ -12,7 +13,7 @@ sub-result c = search needs
 -- src/instr.rt:117:1
 returns : tie.Need-returns
 returns c =
-    simp (lt-ltb _ _ (c .if1 .taken))
+    simp (lt-ltb _ _ (c .if1 .taken)) (minus-one _)
 
 -- src/instr.rt:117:1
 returns-2 : tie.Need-returns-2

@@ -1,3 +1,4 @@
+use Rattle.rules.specs.Instr.{kindNumber}
 use Rattle.words.proofs.Laws.{falls, stays}
 use mathlib.Core.Path.{_≡_, refl, sym, ap, _∙_}
 use borrow.Author.Needs.{needs}
@@ -33,12 +34,12 @@ fall-requires c κs = search needs
 -- src/instr.rt:175:13
 returns : tie.Need-returns
 returns c =
-    falls _ _ _ _ _ _ _ (c .before .before .before .before .number .ensures ∙ ap kindNumber (c .before .before .before .before .before .kind .ensures)) (c .before .before .before .number2 .ensures) (c .before .before .if1 .taken) ?
+    falls _ _ _ _ _ _ (c .before .before .before .before .number .ensures ∙ ap kindNumber (c .before .before .before .before .before .kind .ensures)) (c .before .before .before .number2 .ensures) (c .before .before .if1 .taken) _ (rw (c .before .number3 .ensures) at (c .fall .ensures))
 
 -- src/instr.rt:170:5
 returns-2 : tie.Need-returns-2
 returns-2 c =
-    stays _ _ _ _ _ _ _ (c .before .before .number .ensures ∙ ap kindNumber (c .before .before .before .kind .ensures)) (c .before .number2 .ensures) (c .if1 .left)
+    stays _ _ _ _ _ _ (c .before .before .number .ensures ∙ ap kindNumber (c .before .before .before .kind .ensures)) (c .before .number2 .ensures) (c .if1 .left)
 
 pub fall-of-spec : {M : Type 1} → statement M
 fall-of-spec =

@@ -1,3 +1,6 @@
+use Rattle.words.proofs.Rows.{other-kinds}
+use Rattle.rules.specs.Instr.{Kind}
+use mathlib.Core.Path.{ap}
 use borrow.Author.Needs.{needs}
 use Rattle.words.proofs.instr.AnyReg.of.Statement.{statement}
 use Rattle.words.proofs.instr.AnyReg.of.Tie as tie
@@ -24,7 +27,8 @@ returns-2 c =
 
 -- src/instr.rt:139:5
 returns-3 : tie.Need-returns-3
-returns-3 c = ?
+returns-3 c =
+    ap (λ (k : Kind). (k, c .before .args .n)) (other-kinds (c .before .args .kind) (c .match .keys3))
 
 pub of-spec : {M : Type 1} → statement M
 of-spec = tie.close (tie.spec enum-told enum-told-2 returns returns-2 returns-3)

@@ -1,3 +1,7 @@
+use Rattle.words.proofs.Rows.{removes-none, removes}
+use Rattle.words.proofs.Laws.{op-lt}
+use Rattle.rules.specs.Word.{insWord}
+use mathlib.Core.Path.{_≡_, refl, sym, ap, _∙_}
 use borrow.Author.Needs.{needs}
 use Rattle.words.proofs.instr.Instruction.remove_reg.Statement.{statement}
 use Rattle.words.proofs.instr.Instruction.remove_reg.Tie as tie
@@ -34,7 +38,8 @@ plain-requires c κs = search needs
 
 -- src/instr.rt:587:13
 returns : tie.Need-returns
-returns c = ?
+returns c =
+    c .plain .ensures ∙ ap insWord (removes-none _ _ _ (c .before .before .before .before .op .ensures) (c .before .before .before .fields .ensures) (c .before .enum-told .given .1) _ _)
 
 -- src/instr.rt:589:34
 fst-requires : tie.Need-fst-requires
@@ -66,11 +71,13 @@ op-requires-2 c κs = search needs
 
 -- src/instr.rt:592:9
 word-requires : tie.Need-word-requires
-word-requires c κs = ?
+word-requires c κs =
+    op-lt _ _ (c .op2 .ensures)
 
 -- src/instr.rt:583:5
 returns-2 : tie.Need-returns-2
-returns-2 c = ?
+returns-2 c =
+    c .word .ensures ∙ ap insWord (rw (c .before .op2 .ensures) (removes _ _ _ refl (rw (c .before .before .before .before .before .before .before .before .before .before .before .before .op .ensures) at (c .before .before .before .before .before .before .before .before .before .before .before .fields .ensures)) _ _ _ _ (c .before .before .before .before .before .before .before .before .before .a .given .1) _ _ _ _ _ (rw (c .before .before .before .before .before .before .before .fst .ensures) at (c .before .before .before .before .before .before .fall-of .ensures)) (rw (c .before .before .before .before .before .snd .ensures) at (c .before .before .before .before .fall-of2 .ensures)) (rw (c .before .before .before .thd .ensures) at (c .before .before .fall-of3 .ensures))))
 
 pub remove-reg-spec : {M : Type 1} → statement M
 remove-reg-spec =

@@ -1,3 +1,4 @@
+use Rattle.words.proofs.Laws.{removed}
 use Rattle.rules.specs.Instr.{removeSection}
 use mathlib.Core.Path.{_≡_, refl, sym, ap, _∙_}
 use borrow.Author.Needs.{needs}
@@ -23,9 +24,8 @@ aimed-requires c κs = search needs
 
 -- src/instr.rt:595:5
 returns : tie.Need-returns
-unfolding removeSection
 returns c =
-    ?
+    c .aimed .ensures ∙ removed _ _ _ _ (c .before .fall .ensures) (c .before .before .fst .ensures)
 
 pub remove-section-spec : {M : Type 1} → statement M
 remove-section-spec = tie.close (tie.spec fst-requires fall-requires aimed-requires returns)

@@ -1,3 +1,4 @@
+use borrow.Author.Needs.{needs}
 use Rattle.rules.specs.Word.{insSpare}
 use native.Mathlib.Omega.{arith}
 use Rattle.words.proofs.instr.Instruction.spare.Statement.{statement}

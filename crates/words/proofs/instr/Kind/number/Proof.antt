@@ -29,31 +29,31 @@ enum-told-5 c = search needs
 returns : tie.Need-returns
 unfolding kindNumber
 returns c =
-    ?
+    rw (c .enum-told .given .1)
 
 -- src/instr.rt:124:5
 returns-2 : tie.Need-returns-2
 unfolding kindNumber
 returns-2 c =
-    ?
+    rw (c .enum-told2 .given .1)
 
 -- src/instr.rt:124:5
 returns-3 : tie.Need-returns-3
 unfolding kindNumber
 returns-3 c =
-    ?
+    rw (c .enum-told3 .given .1)
 
 -- src/instr.rt:124:5
 returns-4 : tie.Need-returns-4
 unfolding kindNumber
 returns-4 c =
-    ?
+    rw (c .enum-told4 .given .1)
 
 -- src/instr.rt:124:5
 returns-5 : tie.Need-returns-5
 unfolding kindNumber
 returns-5 c =
-    ?
+    rw (c .enum-told5 .given .1)
 
 pub number-spec : {M : Type 1} → statement M
 number-spec =
