@@ -40,6 +40,16 @@ pub kinds-row : (o : ℕ) (r : Row) → some r ≡ getElem? table o → kinds o 
 unfolding kinds
 kinds-row o r e = rw (← e)
 
+-- whoever knows the row knows the kinds
+abbrev pub rowKinds : Option Row → Option (Kind × Kind × Kind)
+rowKinds none = none
+rowKinds (some r) = some (r .kinds)
+
+pub told-both : (x : Option Row) (o : ℕ) → x ≡ getElem? table o → (rowKinds x ≡ kinds o) × (x ≡ getElem? table o)
+unfolding kinds
+told-both none o e = (rw (← e), e)
+told-both (some r) o e = (rw (← e), e)
+
 -- so are the registers that are read, and the one that is modified
 module _ (i : Instruction) (r : Row) (e : some r ≡ getElem? table (i .op)) where
   pub reads-row : reads i ≡ map (register r i) (r .reads)

@@ -479,7 +479,8 @@ impl Instruction {
 impl Instruction {
     // What each opcode's fields hold, and what it does with them.
     pub fn fields(op: u64) -> Fields
-        ensures { λ r. ⌜ Told.fieldsTold r ≡ getElem? Instr.table op ⌝ }
+        ensures kinds { λ r. ⌜ Told.kindsTold r ≡ Instr.kinds op ⌝ }
+        ensures row { λ r. ⌜ Told.fieldsTold r ≡ getElem? Instr.table op ⌝ }
     {
         match op {
             Self::JUMP_SECTION_IF => Fields::Are(Place, Num, Unused, Tested),

@@ -34,7 +34,7 @@ enum-told c = search needs
 -- src/instr.rt:548:13
 returns : tie.Need-returns
 returns c =
-    modifies-none _ _ _ (c .before .before .before .op .ensures) (c .before .before .fields .ensures) (c .enum-told .given .1)
+    modifies-none _ _ _ (c .before .before .before .op .ensures) (c .before .before .fields .ensures .1) (c .enum-told .given .1)
 
 -- src/instr.rt:552:69
 fst-requires : tie.Need-fst-requires
@@ -71,22 +71,22 @@ of-requires-3 c κs = search needs
 -- src/instr.rt:544:5
 returns-2 : tie.Need-returns-2
 returns-2 c =
-    modifies-nothing _ _ _ (c .before .before .before .before .before .op .ensures) (c .before .before .before .before .fields .ensures) _ _ _ _ (c .before .before .a .given .1) (flows flowModifies none (0 ∷ 1 ∷ []) refl (c .before .before .a .given .0 .1 .1 .1 .0) (c .match2 .keys1))
+    modifies-nothing _ _ _ (c .before .before .before .before .before .op .ensures) (c .before .before .before .before .fields .ensures .1) _ _ _ _ (c .before .before .a .given .1) (flows flowModifies none (0 ∷ 1 ∷ []) refl (c .before .before .a .given .0 .1 .1 .1 .0) (c .match2 .keys1))
 
 -- src/instr.rt:544:5
 returns-3 : tie.Need-returns-3
 returns-3 c =
-    rw (c .of .ensures) (modifies-first _ _ _ (c .before .before .before .before .before .before .before .op .ensures) (c .before .before .before .before .before .before .fields .ensures) _ _ _ _ (c .before .before .before .before .a .given .1) (flows flowModifies (some 0) (2 ∷ 4 ∷ []) refl (c .before .before .before .before .a .given .0 .1 .1 .1 .0) (c .before .before .match2 .keys2)) _ (c .before .fst .ensures))
+    rw (c .of .ensures) (modifies-first _ _ _ (c .before .before .before .before .before .before .before .op .ensures) (c .before .before .before .before .before .before .fields .ensures .1) _ _ _ _ (c .before .before .before .before .a .given .1) (flows flowModifies (some 0) (2 ∷ 4 ∷ []) refl (c .before .before .before .before .a .given .0 .1 .1 .1 .0) (c .before .before .match2 .keys2)) _ (c .before .fst .ensures))
 
 -- src/instr.rt:544:5
 returns-4 : tie.Need-returns-4
 returns-4 c =
-    rw (c .of2 .ensures) (modifies-second _ _ _ (c .before .before .before .before .before .before .before .before .op .ensures) (c .before .before .before .before .before .before .before .fields .ensures) _ _ _ _ (c .before .before .before .before .before .a .given .1) (ap flowModifies (c .before .before .enum-told2 .given .1)) _ (c .before .snd .ensures))
+    rw (c .of2 .ensures) (modifies-second _ _ _ (c .before .before .before .before .before .before .before .before .op .ensures) (c .before .before .before .before .before .before .before .fields .ensures .1) _ _ _ _ (c .before .before .before .before .before .a .given .1) (ap flowModifies (c .before .before .enum-told2 .given .1)) _ (c .before .snd .ensures))
 
 -- src/instr.rt:544:5
 returns-5 : tie.Need-returns-5
 returns-5 c =
-    rw (c .of3 .ensures) (modifies-third _ _ _ (c .before .before .before .before .before .before .before .before .op .ensures) (c .before .before .before .before .before .before .before .fields .ensures) _ _ _ _ (c .before .before .before .before .before .a .given .1) (ap flowModifies (c .before .before .enum-told3 .given .1)) _ (c .before .thd .ensures))
+    rw (c .of3 .ensures) (modifies-third _ _ _ (c .before .before .before .before .before .before .before .before .op .ensures) (c .before .before .before .before .before .before .before .fields .ensures .1) _ _ _ _ (c .before .before .before .before .before .a .given .1) (ap flowModifies (c .before .before .enum-told3 .given .1)) _ (c .before .thd .ensures))
 
 pub modifies-spec : {M : Type 1} → statement M
 modifies-spec =

@@ -39,7 +39,7 @@ plain-requires c κs = search needs
 -- src/instr.rt:587:13
 returns : tie.Need-returns
 returns c =
-    c .plain .ensures ∙ ap insWord (removes-none _ _ _ (c .before .before .before .before .op .ensures) (c .before .before .before .fields .ensures) (c .before .enum-told .given .1) _ _)
+    c .plain .ensures ∙ ap insWord (removes-none _ _ _ (c .before .before .before .before .op .ensures) (c .before .before .before .fields .ensures .1) (c .before .enum-told .given .1) _ _)
 
 -- src/instr.rt:589:34
 fst-requires : tie.Need-fst-requires
@@ -77,7 +77,7 @@ word-requires c κs =
 -- src/instr.rt:583:5
 returns-2 : tie.Need-returns-2
 returns-2 c =
-    c .word .ensures ∙ ap insWord (rw (c .before .op2 .ensures) (removes _ _ _ refl (rw (c .before .before .before .before .before .before .before .before .before .before .before .before .op .ensures) at (c .before .before .before .before .before .before .before .before .before .before .before .fields .ensures)) _ _ _ _ (c .before .before .before .before .before .before .before .before .before .a .given .1) _ _ _ _ _ (rw (c .before .before .before .before .before .before .before .fst .ensures) at (c .before .before .before .before .before .before .fall-of .ensures)) (rw (c .before .before .before .before .before .snd .ensures) at (c .before .before .before .before .fall-of2 .ensures)) (rw (c .before .before .before .thd .ensures) at (c .before .before .fall-of3 .ensures))))
+    c .word .ensures ∙ ap insWord (rw (c .before .op2 .ensures) (removes _ _ _ refl (rw (c .before .before .before .before .before .before .before .before .before .before .before .before .op .ensures) at (c .before .before .before .before .before .before .before .before .before .before .before .fields .ensures .1)) _ _ _ _ (c .before .before .before .before .before .before .before .before .before .a .given .1) _ _ _ _ _ (rw (c .before .before .before .before .before .before .before .fst .ensures) at (c .before .before .before .before .before .before .fall-of .ensures)) (rw (c .before .before .before .before .before .snd .ensures) at (c .before .before .before .before .fall-of2 .ensures)) (rw (c .before .before .before .thd .ensures) at (c .before .before .fall-of3 .ensures))))
 
 pub remove-reg-spec : {M : Type 1} → statement M
 remove-reg-spec =
