@@ -3,10 +3,11 @@ use mathlib.Core.Bool.{Bool}
 use mathlib.Core.List.{List, [], _∷_}
 use mathlib.Core.Option.{Option, none, some}
 use Prim.Native.Nat.{ℕ}
-use lib.ListN.{take}
-use Rattle.rules.specs.Instr.{Instruction as Ins, ins₁, Kind, unused, num, str, val, place, Row}
-use Rattle.rules.specs.Word.{insWord}
-use Rattle.rules.specs.Replace.{Rule, stays, goes, turns, number, result, blank}
+use lib.ListN.{length, take}
+use Rattle.rules.specs.Instr.{Instruction as Ins, ins₁, ins₂, Kind, unused, num, str, val, place, Row}
+use Rattle.rules.specs.Opcode.{CopyNum, CopyStr}
+use Rattle.rules.specs.Word.{insWord, wordIns}
+use Rattle.rules.specs.Replace.{Rule, stays, goes, turns, number, result, blank, Regs, addNumber, addBlank}
 use Rattle.words.specs.declared.instr.Kind.{Kind as Field}
 use Rattle.words.specs.declared.instr.Kind.the-variants.{Unused, Num, Str, Val, Place}
 use Rattle.words.specs.declared.instr.Flow.{Flow}
@@ -122,3 +123,11 @@ replacedOf (turns o) i = Turned (record { 0 = insWord (ins₁ o (i .fst)) })
 replacedOf (number z) i = Numbered (record { 0 = z }) (record { 0 = i .fst })
 replacedOf (result z) i = Numbered (record { 0 = z }) (record { 0 = i .thd })
 replacedOf blank i = Blanked (record { 0 = i .fst })
+
+-- what becomes of the instruction i and of the registers r by the answer; p is the pool's length
+abbrev pub replacedBy : ℕ → Regs → Ins → Replaced → List Ins × Regs
+replacedBy p r i Kept = (i ∷ [], r)
+replacedBy p r i Gone = ([], r)
+replacedBy p r i (Turned w) = (wordIns (w .0) ∷ [], r)
+replacedBy p r i (Numbered z n) = (ins₂ CopyNum (length (r .numbers)) (n .0) ∷ [], addNumber (z .0) r)
+replacedBy p r i (Blanked s) = (ins₂ CopyStr (length (r .strings)) (s .0) ∷ [], addBlank p r)

@@ -1,53 +1,35 @@
-use Rattle.words.specs.Told.{targetTold}
-use Rattle.words.proofs.Laws.{kept-none, was-there, was-not}
-use mathlib.Core.Path.{_≡_, refl, sym, ap, _∙_}
+-- `Instruction::checked_remove_section` meets its contract. Assumes nothing.
 use borrow.Author.Needs.{needs}
+use Rattle.words.proofs.Laws.{kept-none, was-there, was-not}
 use Rattle.words.proofs.instr.Instruction.checked_remove_section.Statement.{statement}
 use Rattle.words.proofs.instr.Instruction.checked_remove_section.Tie as tie
-use Rattle.words.proofs.instr.Instruction.checked_remove_section.Reads as reads
-use Rattle.words.proofs.instr.Instruction.checked_remove_section.Lts as lts
-use Rattle.words.proofs.instr.Instruction.get_section.Reads as get-section-reads
-use Rattle.words.proofs.instr.Instruction.plain.Reads as plain-reads
-use Rattle.words.proofs.instr.Instruction.remove_section.Reads as remove-section-reads
 
--- src/instr.rt:604:34
 get-section-requires : tie.Need-get-section-requires
 get-section-requires c κs = search needs
 
--- src/instr.rt:604:24
 enum-known-target : tie.Need-enum-known-target
 enum-known-target c = search needs
 
--- src/instr.rt:607:24
 enum-told : tie.Need-enum-told
 enum-told c = search needs
 
--- src/instr.rt:607:24
 plain-requires : tie.Need-plain-requires
 plain-requires c κs = search needs
 
--- src/instr.rt:605:13
 returns : tie.Need-returns
-returns c =
-    kept-none _ _ _ (c .plain .ensures) (rw (c .before .enum-told .given .1) at (c .before .before .before .get-section .ensures))
+returns c = kept-none _ _ _ (c .plain .ensures) (rw (c .before .enum-told .given .1) at (c .before .before .before .get-section .ensures))
 
--- src/instr.rt:613:24
 plain-requires-2 : tie.Need-plain-requires-2
 plain-requires-2 c κs = search needs
 
--- src/instr.rt:611:13
 returns-2 : tie.Need-returns-2
-returns-2 c =
-    was-there _ _ _ (rw (c .before .before .before .before .before .target .given .1) at (c .before .before .before .before .before .before .before .get-section .ensures)) _ (c .plain2 .ensures) (c .before .if1 .taken)
+returns-2 c = was-there _ _ _ (rw (c .before .before .before .before .before .target .given .1) at (c .before .before .before .before .before .before .before .get-section .ensures)) _ (c .plain2 .ensures) (c .before .if1 .taken)
 
--- src/instr.rt:618:20
 remove-section-requires : tie.Need-remove-section-requires
 remove-section-requires c κs = search needs
 
--- src/instr.rt:601:5
 returns-3 : tie.Need-returns-3
-returns-3 c =
-    was-not _ _ _ (rw (c .before .before .before .before .before .target .given .1) at (c .before .before .before .before .before .before .before .get-section .ensures)) _ (c .remove-section .ensures) (c .before .if1 .left)
+returns-3 c = was-not _ _ _ (rw (c .before .before .before .before .before .target .given .1) at (c .before .before .before .before .before .before .before .get-section .ensures)) _ (c .remove-section .ensures) (c .before .if1 .left)
 
 pub checked-remove-section-spec : {M : Type 1} → statement M
 checked-remove-section-spec =

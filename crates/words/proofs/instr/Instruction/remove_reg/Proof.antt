@@ -1,83 +1,56 @@
-use Rattle.words.proofs.Rows.{removes-none, removes}
-use Rattle.words.proofs.Laws.{op-lt}
-use Rattle.rules.specs.Word.{insWord}
-use mathlib.Core.Path.{_≡_, refl, sym, ap, _∙_}
+-- `Instruction::remove_reg` meets its contract. Assumes nothing.
 use borrow.Author.Needs.{needs}
+use mathlib.Core.Path.{refl, ap, _∙_}
+use Rattle.rules.specs.Word.{insWord}
+use Rattle.words.proofs.Laws.{op-lt}
+use Rattle.words.proofs.Rows.{removes-none, removes}
 use Rattle.words.proofs.instr.Instruction.remove_reg.Statement.{statement}
 use Rattle.words.proofs.instr.Instruction.remove_reg.Tie as tie
-use Rattle.words.proofs.instr.Instruction.remove_reg.Reads as reads
-use Rattle.words.proofs.instr.Instruction.remove_reg.Lts as lts
-use Rattle.words.proofs.instr.AnyReg.fall_of.Reads as fall-of-reads
-use Rattle.words.proofs.instr.Instruction.fields.Reads as fields-reads
-use Rattle.words.proofs.instr.Instruction.fst.Reads as fst-reads
-use Rattle.words.proofs.instr.Instruction.op.Reads as op-reads
-use Rattle.words.proofs.instr.Instruction.plain.Reads as plain-reads
-use Rattle.words.proofs.instr.Instruction.snd.Reads as snd-reads
-use Rattle.words.proofs.instr.Instruction.thd.Reads as thd-reads
-use Rattle.words.proofs.instr.Instruction.word.Reads as word-reads
 
--- src/instr.rt:586:52
 op-requires : tie.Need-op-requires
 op-requires c κs = search needs
 
--- src/instr.rt:586:39
 fields-requires : tie.Need-fields-requires
 fields-requires c κs = search needs
 
--- src/instr.rt:586:25
 enum-known-a : tie.Need-enum-known-a
 enum-known-a c = search needs
 
--- src/instr.rt:587:13
 enum-told : tie.Need-enum-told
 enum-told c = search needs
 
--- src/instr.rt:587:13
 plain-requires : tie.Need-plain-requires
 plain-requires c κs = search needs
 
--- src/instr.rt:587:13
 returns : tie.Need-returns
-returns c =
-    c .plain .ensures ∙ ap insWord (removes-none _ _ _ (c .before .before .before .before .op .ensures) (c .before .before .before .fields .ensures .1) (c .before .enum-told .given .1) _ _)
+returns c = c .plain .ensures ∙ ap insWord (removes-none _ _ _ (c .before .before .before .before .op .ensures) (c .before .before .before .fields .ensures .1) (c .before .enum-told .given .1) _ _)
 
--- src/instr.rt:589:34
 fst-requires : tie.Need-fst-requires
 fst-requires c κs = search needs
 
--- src/instr.rt:589:13
 fall-of-requires : tie.Need-fall-of-requires
 fall-of-requires c κs = search needs
 
--- src/instr.rt:590:34
 snd-requires : tie.Need-snd-requires
 snd-requires c κs = search needs
 
--- src/instr.rt:590:13
 fall-of-requires-2 : tie.Need-fall-of-requires-2
 fall-of-requires-2 c κs = search needs
 
--- src/instr.rt:591:34
 thd-requires : tie.Need-thd-requires
 thd-requires c κs = search needs
 
--- src/instr.rt:591:13
 fall-of-requires-3 : tie.Need-fall-of-requires-3
 fall-of-requires-3 c κs = search needs
 
--- src/instr.rt:592:20
 op-requires-2 : tie.Need-op-requires-2
 op-requires-2 c κs = search needs
 
--- src/instr.rt:592:9
 word-requires : tie.Need-word-requires
-word-requires c κs =
-    op-lt _ _ (c .op2 .ensures)
+word-requires c κs = op-lt _ _ (c .op2 .ensures)
 
--- src/instr.rt:583:5
 returns-2 : tie.Need-returns-2
-returns-2 c =
-    c .word .ensures ∙ ap insWord (rw (c .before .op2 .ensures) (removes _ _ _ refl (rw (c .before .before .before .before .before .before .before .before .before .before .before .before .op .ensures) at (c .before .before .before .before .before .before .before .before .before .before .before .fields .ensures .1)) _ _ _ _ (c .before .before .before .before .before .before .before .before .before .a .given .1) _ _ _ _ _ (rw (c .before .before .before .before .before .before .before .fst .ensures) at (c .before .before .before .before .before .before .fall-of .ensures)) (rw (c .before .before .before .before .before .snd .ensures) at (c .before .before .before .before .fall-of2 .ensures)) (rw (c .before .before .before .thd .ensures) at (c .before .before .fall-of3 .ensures))))
+returns-2 c = c .word .ensures ∙ ap insWord (rw (c .before .op2 .ensures) (removes _ _ _ refl (rw (c .before .before .before .before .before .before .before .before .before .before .before .before .op .ensures) at (c .before .before .before .before .before .before .before .before .before .before .before .fields .ensures .1)) _ _ _ _ (c .before .before .before .before .before .before .before .before .before .a .given .1) _ _ _ _ _ (rw (c .before .before .before .before .before .before .before .fst .ensures) at (c .before .before .before .before .before .before .fall-of .ensures)) (rw (c .before .before .before .before .before .snd .ensures) at (c .before .before .before .before .fall-of2 .ensures)) (rw (c .before .before .before .thd .ensures) at (c .before .before .fall-of3 .ensures))))
 
 pub remove-reg-spec : {M : Type 1} → statement M
 remove-reg-spec =

@@ -1,34 +1,23 @@
-use Rattle.words.proofs.Sections.{to-line, to-none, to-section}
+-- `SectionWord::success` meets its contract. Assumes nothing.
 use borrow.Author.Needs.{needs}
+use Rattle.words.proofs.Sections.{to-line, to-none, to-section}
 use Rattle.words.proofs.section.SectionWord.success.Statement.{statement}
 use Rattle.words.proofs.section.SectionWord.success.Tie as tie
-use Rattle.words.proofs.section.SectionWord.success.Reads as reads
-use Rattle.words.proofs.section.SectionWord.success.Lts as lts
-use Rattle.words.proofs.section.SectionWord.kind.Reads as kind-reads
-use Rattle.words.proofs.section.SectionWord.target.Reads as target-reads
 
--- src/section.rt:126:13
 target-requires : tie.Need-target-requires
 target-requires c κs = search needs
 
--- src/section.rt:127:12
 kind-requires : tie.Need-kind-requires
 kind-requires c κs = search needs
 
--- src/section.rt:128:13
 returns : tie.Need-returns
-returns c =
-    to-line _ _ _ (c .before .kind .ensures) (c .before .before .target .ensures) (c .if1 .taken)
+returns c = to-line _ _ _ (c .before .kind .ensures) (c .before .before .target .ensures) (c .if1 .taken)
 
--- src/section.rt:131:13
 returns-2 : tie.Need-returns-2
-returns-2 c =
-    to-none _ _ _ (c .before .before .kind .ensures) (c .before .before .before .target .ensures) (c .before .if1 .left) (c .if2 .taken)
+returns-2 c = to-none _ _ _ (c .before .before .kind .ensures) (c .before .before .before .target .ensures) (c .before .if1 .left) (c .if2 .taken)
 
--- src/section.rt:123:5
 returns-3 : tie.Need-returns-3
-returns-3 c =
-    to-section _ _ _ (c .before .before .kind .ensures) (c .before .before .before .target .ensures) (c .before .if1 .left) (c .if2 .left)
+returns-3 c = to-section _ _ _ (c .before .before .kind .ensures) (c .before .before .before .target .ensures) (c .before .if1 .left) (c .if2 .left)
 
 pub success-spec : {M : Type 1} → statement M
 success-spec = tie.close (tie.spec target-requires kind-requires returns returns-2 returns-3)

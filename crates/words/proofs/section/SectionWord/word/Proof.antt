@@ -1,52 +1,40 @@
-use Rattle.rules.specs.Word.{runWord}
-use native.Mathlib.Omega.{arith}
+-- `SectionWord::word` meets its contract. Assumes nothing.
 use borrow.Author.Needs.{needs}
+use native.Mathlib.Omega.{arith}
+use Rattle.rules.specs.Word.{runWord}
 use Rattle.words.proofs.section.SectionWord.word.Statement.{statement}
 use Rattle.words.proofs.section.SectionWord.word.Tie as tie
-use Rattle.words.proofs.section.SectionWord.word.Reads as reads
-use Rattle.words.proofs.section.SectionWord.word.Lts as lts
 
--- src/section.rt:66:13
 mul-t6 : tie.Need-mul-t6
 mul-t6 c = search needs
 
--- src/section.rt:67:19
 mul-t7 : tie.Need-mul-t7
 mul-t7 c = search needs
 
--- src/section.rt:66:13
 add-t8 : tie.Need-add-t8
 add-t8 c = search needs
 
--- src/section.rt:68:19
 mul-t10 : tie.Need-mul-t10
 mul-t10 c = search needs
 
--- src/section.rt:66:13
 add-t11 : tie.Need-add-t11
 add-t11 c = search needs
 
--- src/section.rt:69:19
 mul-t13 : tie.Need-mul-t13
 mul-t13 c = search needs
 
--- src/section.rt:66:13
 add-t14 : tie.Need-add-t14
 add-t14 c = search needs
 
--- src/section.rt:70:19
 mul-t16 : tie.Need-mul-t16
 mul-t16 c = search needs
 
--- src/section.rt:66:13
 add-t17 : tie.Need-add-t17
 add-t17 c = search needs
 
--- src/section.rt:61:5
 returns : tie.Need-returns
 unfolding runWord
-returns c =
-    omega arith
+returns c = omega arith
 
 pub word-spec : {M : Type 1} → statement M
 word-spec =

@@ -1,28 +1,22 @@
-use Rattle.rules.specs.Word.{spanWord}
-use native.Mathlib.Omega.{arith}
+-- `StringWord::pack` meets its contract. Assumes nothing.
 use borrow.Author.Needs.{needs}
+use native.Mathlib.Omega.{arith}
+use Rattle.rules.specs.Word.{spanWord}
 use Rattle.words.proofs.text.StringWord.pack.Statement.{statement}
 use Rattle.words.proofs.text.StringWord.pack.Tie as tie
-use Rattle.words.proofs.text.StringWord.pack.Reads as reads
-use Rattle.words.proofs.text.StringWord.pack.Lts as lts
 
--- src/text.rt:17:20
 mul-t4 : tie.Need-mul-t4
 mul-t4 c = search needs
 
--- src/text.rt:17:43
 mul-t6 : tie.Need-mul-t6
 mul-t6 c = search needs
 
--- src/text.rt:17:20
 add-t7 : tie.Need-add-t7
 add-t7 c = search needs
 
--- src/text.rt:13:5
 returns : tie.Need-returns
 unfolding spanWord
-returns c =
-    omega arith
+returns c = omega arith
 
 pub pack-spec : {M : Type 1} → statement M
 pack-spec = tie.close (tie.spec mul-t4 mul-t6 add-t7 returns)
