@@ -1,0 +1,4 @@
+// Replacement of duplicate operands in a machine in lent tables.
+pub mod additions;
+pub mod instruction;
+pub mod run;
