@@ -35,6 +35,10 @@ pub sums-cons : (f : ℕ → ℕ) (w : ℕ) (ws : List ℕ) → sums f (w ∷ ws
 unfolding sums
 sums-cons f w ws = refl
 
+pub sums-append : (f : ℕ → ℕ) (us vs : List ℕ) → sums f (us ++ vs) ≡ sums f us + sums f vs
+sums-append f [] vs = rw sums-nil (omega arith)
+sums-append f (u ∷ us) vs = rw (sums-cons f u (us ++ vs), sums-cons f u us, sums-append f us vs) (omega arith)
+
 module _ (f : ℕ → ℕ) (t : List ℕ) (i e k : ℕ) where
   pub sums-done : e ≤ i → i ≤ e → k + sums f (slice i e t) ≡ k
   sums-done a b = let z : i ≡ e = omega arith in rw (z, slice-empty, sums-nil) (omega arith)

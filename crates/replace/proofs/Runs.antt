@@ -5,16 +5,19 @@ use Prim.Native.Nat.{ℕ, zero, suc, _+_, _≤_, _<_}
 use native.Mathlib.Omega.{arith}
 use native.Mathlib.Numerals.{add-one}
 use lib.IntN.{ℤ}
-use lib.ListN.{length, take, drop, getD}
-use lib.Seq.{slice, slice-cons, slice-empty}
+use lib.ListN.{length, take, drop, getD, length-append, length-map}
+use lib.Seq.{slice, slice-cons, slice-empty, length-take-le}
 use Rattle.rules.specs.Constants.{mostCount}
 use Rattle.rules.specs.Instr.{Instruction}
 use Rattle.rules.specs.Word.{wordIns, insWord}
 use Rattle.rules.specs.Replace.{Regs, replaceIns, replaceCode}
-use Rattle.tables.proofs.InPlace.{drop-later, head-same}
+use Rattle.tables.proofs.InPlace.{map-append, drop-later, head-same}
 use Rattle.replace.specs.Pass.{numberOf, stringOf, sums, regsOf, Plain, Spare, Stepped, Open, Ran}
 use Rattle.replace.proofs.Adding.{sums-nil, sums-cons}
-use Rattle.replace.proofs.Steps.{map-append}
+
+-- words taken from two lists, by their counts
+taken-count : (b b₀ : ℕ) (i is : List ℕ) (xs : List Instruction) → take b i ≡ take b₀ is ++ map insWord xs → b ≤ length i → b₀ ≤ length is → b ≡ b₀ + length xs
+taken-count b b₀ i is xs e h k = sym (length-take-le b i h) ∙ ap length e ∙ simp (length-append, length-map) (ap (λ (n : ℕ). n + length xs) (length-take-le b₀ is k))
 
 -- is, ns, ts are the tables at the start, i, k, t those now; j instructions are read, b done, n numbers and s strings
 pub record Running (p : ℕ) (is : List ℕ) (ns : List ℤ) (ts : List ℕ) (b₀ n₀ s₀ from to : ℕ) (i : List ℕ) (k : List ℤ) (t : List ℕ) (j b n s : ℕ) : Type 0 where
@@ -55,6 +58,9 @@ module _ (p : ℕ) (is : List ℕ) (ns : List ℤ) (ts : List ℕ) (b₀ n₀ s�
     run-ends h =
         let a = r .j-to in
         let c = r .b-j in
+        let l = r .i-len in
+        let q = o .within in
+        let u = o .behind in
         let z : j ≡ to = omega arith in
         let e : slice j to is ≡ [] = rw z (slice-empty to is) in
         let x : n ≡ n₀ + sums numberOf (slice from to is) = let y = r .number-left in let v : sums numberOf (slice j to is) ≡ 0 = rw e (sums-nil numberOf) in omega arith in
@@ -68,6 +74,7 @@ module _ (p : ℕ) (is : List ℕ) (ns : List ℤ) (ts : List ℕ) (b₀ n₀ s�
           plain = r .plain;
           number-count = x;
           string-count = w;
+          count = let f : b ≤ length i = omega arith in let g : b₀ ≤ length is = omega arith in taken-count b b₀ i is (replaceCode p (regsOf ns ts n₀ s₀) (map wordIns (slice from to is)) .0) (rw (e, append-nil) at (r .code)) f g;
           shorter = omega arith;
         }
 

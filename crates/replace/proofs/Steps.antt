@@ -20,13 +20,9 @@ use Rattle.words.specs.declared.instr.StrReg as S
 use Rattle.words.specs.declared.number.Number as Z
 use Rattle.words.specs.declared.instr.Replaced.{Replaced}
 use Rattle.words.specs.declared.instr.Replaced.the-variants.{Stays, Goes, Turns, Number, Blank}
-use Rattle.tables.proofs.InPlace.{set-taken, set-rest}
+use Rattle.tables.proofs.InPlace.{map-append, set-taken, set-rest}
 use Rattle.replace.specs.Pass.{numbersBy, stringsBy, numberOf, stringOf, regsOf, Plain, NumberAdded, BlankAdded, Stepped}
 use Rattle.replace.proofs.Adding.{numbers-are, strings-are}
-
-pub map-append : {A B : Type 0} (g : A → B) (xs ys : List A) → map g (xs ++ ys) ≡ map g xs ++ map g ys
-map-append g [] ys = refl
-map-append g (x ∷ xs) ys = ap (λ (l : List _). g x ∷ l) (map-append g xs ys)
 
 abbrev made : List ℤ → List Span → Regs
 made ns ss = record { numbers = ns; strings = ss }

@@ -123,4 +123,50 @@ pub record Ran (is : List ℕ) (ns : List ℤ) (ts is′ : List ℕ) (ns′ : Li
   pub plain : Plain ts s → Plain ts′ s′
   pub number-count : n′ ≡ n + sums numberOf (slice from to is)
   pub string-count : s′ ≡ s + sums stringOf (slice from to is)
+  pub count : b′ ≡ b + length (replaceCode p (regsOf ns ts n s) (map wordIns (slice from to is)) .0)
   pub shorter : b′ ≤ to
+
+-- ---- all sections
+
+-- the sections that n section words and e instruction words hold, replaced, and the registers behind them; k numbers and s strings are
+-- counted before, and the pool has p characters
+abbrev pub wholeOf : List ℕ → List ℕ → List ℤ → List ℕ → ℕ → ℕ → ℕ → ℕ → ℕ → List SectionCode × Regs
+wholeOf ss is ns ts n e k s p = replaceSections p (regsOf ns ts k s) (held ss is n e)
+
+-- a machine's words with room for what is added
+pub record Ready (ss is : List ℕ) (ns : List ℤ) (ts : List ℕ) (n e k s p : ℕ) : Type 0 where
+  pub sections : n ≤ length ss
+  pub instrs : e ≤ length is
+  pub instrs-few : e ≤ mostCount
+  pub covered : total (take n ss) ≡ e
+  pub numbers : k + sums numberOf (take e is) ≤ length ns
+  pub numbers-few : k + sums numberOf (take e is) ≤ mostCount
+  pub strings : s + sums stringOf (take e is) ≤ length ts
+  pub strings-few : s + sums stringOf (take e is) ≤ mostCount
+  pub pool-few : p ≤ mostCount
+  pub plain : Plain ts s
+
+-- before the freed words are zeroed
+pub record Rewritten (ss is : List ℕ) (ns : List ℤ) (ts ss′ is′ : List ℕ) (ns′ : List ℤ) (ts′ : List ℕ) (n e k s p b′ k′ s′ : ℕ) : Type 0 where
+  pub sections : take n ss′ ≡ runWords 0 (wholeOf ss is ns ts n e k s p .0)
+  pub section-rest : drop n ss′ ≡ drop n ss
+  pub instrs : take b′ is′ ≡ map insWord (allCode (wholeOf ss is ns ts n e k s p .0))
+  pub instr-rest : drop e is′ ≡ drop e is
+  pub regs : regsOf ns′ ts′ k′ s′ ≡ wholeOf ss is ns ts n e k s p .1
+  pub number-rest : drop k′ ns′ ≡ drop k′ ns
+  pub string-rest : drop s′ ts′ ≡ drop s′ ts
+  pub plain : Plain ts′ s′
+  pub shorter : b′ ≤ e
+  pub more-numbers : k ≤ k′
+  pub more-strings : s ≤ s′
+
+-- the tables of the replaced machine, with b′ instructions, k′ numbers and s′ strings
+pub record Rewrote (ss is : List ℕ) (ns : List ℤ) (ts ss′ is′ : List ℕ) (ns′ : List ℤ) (ts′ : List ℕ) (n e k s p b′ k′ s′ : ℕ) : Type 0 where
+  pub sections : ss′ ≡ put 0 n (runWords 0 (wholeOf ss is ns ts n e k s p .0)) ss
+  pub instrs : is′ ≡ put 0 e (map insWord (allCode (wholeOf ss is ns ts n e k s p .0))) is
+  pub numbers : ns′ ≡ put (pos 0) k (wholeOf ss is ns ts n e k s p .1 .numbers) ns
+  pub strings : ts′ ≡ put 0 s (map spanWord (wholeOf ss is ns ts n e k s p .1 .strings)) ts
+  pub section-count : n ≡ length (wholeOf ss is ns ts n e k s p .0)
+  pub instr-count : b′ ≡ length (allCode (wholeOf ss is ns ts n e k s p .0))
+  pub number-count : k′ ≡ length (wholeOf ss is ns ts n e k s p .1 .numbers)
+  pub string-count : s′ ≡ length (wholeOf ss is ns ts n e k s p .1 .strings)
