@@ -46,50 +46,39 @@ answer-strings p r i (Turns w) = omega arith
 answer-strings p r i (Number z n) = omega arith
 answer-strings p r i (Blank s) = simp length-append
 
-module _ (p : ℕ) where
-  one-numbers : (r : Regs) (w : ℕ) → length (replaceIns p r (wordIns w) .1 .numbers) ≡ length (r .numbers) + numberOf w
-  unfolding numberOf
-  one-numbers r w = ap (λ (x : List Instruction × Regs). length (x .1 .numbers)) (sym (replaced-is p r (wordIns w) (ins-small w))) ∙ answer-numbers p r (wordIns w) (replacedOf (ruleOf (wordIns w)) (wordIns w))
+one-numbers : (p : ℕ) (r : Regs) (w : ℕ) → length (replaceIns p r (wordIns w) .1 .numbers) ≡ length (r .numbers) + numberOf w
+unfolding numberOf
+one-numbers p r w = ap (λ (x : List Instruction × Regs). length (x .1 .numbers)) (sym (replaced-is p r (wordIns w) (ins-small w))) ∙ answer-numbers p r (wordIns w) (replacedOf (ruleOf (wordIns w)) (wordIns w))
 
-  one-strings : (r : Regs) (w : ℕ) → length (replaceIns p r (wordIns w) .1 .strings) ≡ length (r .strings) + stringOf w
-  unfolding stringOf
-  one-strings r w = ap (λ (x : List Instruction × Regs). length (x .1 .strings)) (sym (replaced-is p r (wordIns w) (ins-small w))) ∙ answer-strings p r (wordIns w) (replacedOf (ruleOf (wordIns w)) (wordIns w))
+one-strings : (p : ℕ) (r : Regs) (w : ℕ) → length (replaceIns p r (wordIns w) .1 .strings) ≡ length (r .strings) + stringOf w
+unfolding stringOf
+one-strings p r w = ap (λ (x : List Instruction × Regs). length (x .1 .strings)) (sym (replaced-is p r (wordIns w) (ins-small w))) ∙ answer-strings p r (wordIns w) (replacedOf (ruleOf (wordIns w)) (wordIns w))
 
-  code-numbers : (r : Regs) (is : List ℕ) → length (replaceCode p r (map wordIns is) .1 .numbers) ≡ length (r .numbers) + sums numberOf is
-  code-numbers r [] = rw sums-nil (omega arith)
-  code-numbers r (w ∷ is) = let a = one-numbers r w in let b = code-numbers (replaceIns p r (wordIns w) .1) is in rw sums-cons (omega arith)
+none-left : (f : ℕ → ℕ) (is : List ℕ) → 0 ≡ length is → sums f is ≡ 0
+none-left f [] h = sums-nil f
+none-left f (i ∷ is) h = absurd (omega arith)
 
-  code-strings : (r : Regs) (is : List ℕ) → length (replaceCode p r (map wordIns is) .1 .strings) ≡ length (r .strings) + sums stringOf is
-  code-strings r [] = rw sums-nil (omega arith)
-  code-strings r (w ∷ is) = let a = one-strings r w in let b = code-strings (replaceIns p r (wordIns w) .1) is in rw sums-cons (omega arith)
+parts : (f : ℕ → ℕ) (w : ℕ) (is : List ℕ) → sums f is ≡ sums f (take (wordRun w .count) is) + sums f (drop (countOf w) is)
+parts f w is = ap (sums f) (sym (take-append-drop (countOf w) is)) ∙ sums-append f (take (countOf w) is) (drop (countOf w) is) ∙ rw (count-is w)
+
+-- a count g of registers that each word w raises by f w
+module _ (p : ℕ) (g : Regs → ℕ) (f : ℕ → ℕ) (one : (r : Regs) (w : ℕ) → g (replaceIns p r (wordIns w) .1) ≡ g r + f w) where
+  code-count : (r : Regs) (is : List ℕ) → g (replaceCode p r (map wordIns is) .1) ≡ g r + sums f is
+  code-count r [] = rw sums-nil (omega arith)
+  code-count r (w ∷ is) =
+      let a = one r w in
+      let b = code-count (replaceIns p r (wordIns w) .1) is in
+      rw sums-cons (omega arith)
 
   -- the sections of words ws, whose runs cover the words is
-  none-left : (f : ℕ → ℕ) (is : List ℕ) → 0 ≡ length is → sums f is ≡ 0
-  none-left f [] h = sums-nil f
-  none-left f (i ∷ is) h = absurd (omega arith)
-
-  parts : (f : ℕ → ℕ) (w : ℕ) (is : List ℕ) → sums f is ≡ sums f (take (wordRun w .count) is) + sums f (drop (countOf w) is)
-  parts f w is = ap (sums f) (sym (take-append-drop (countOf w) is)) ∙ sums-append f (take (countOf w) is) (drop (countOf w) is) ∙ rw (count-is w)
-
-  behind : (w : ℕ) (ws is : List ℕ) → countOf w + total ws ≡ length is → total ws ≡ length (drop (countOf w) is)
-  behind w ws is h = simp length-drop (omega arith)
-
-  section-numbers : (r : Regs) (ws is : List ℕ) → total ws ≡ length is → length (replaceSections p r (readSections ws is) .1 .numbers) ≡ length (r .numbers) + sums numberOf is
+  section-count : (r : Regs) (ws is : List ℕ) → total ws ≡ length is → g (replaceSections p r (readSections ws is) .1) ≡ g r + sums f is
   unfolding total
-  section-numbers r [] is h = rw (read-nil, none-left numberOf is h) (omega arith)
-  section-numbers r (w ∷ ws) is h =
-      let a = code-numbers r (take (wordRun w .count) is) in
-      let b = section-numbers (replaceCode p r (sectionOf w is .instrs) .1) ws (drop (countOf w) is) (behind w ws is h) in
-      let c = parts numberOf w is in
-      rw read-cons (omega arith)
-
-  section-strings : (r : Regs) (ws is : List ℕ) → total ws ≡ length is → length (replaceSections p r (readSections ws is) .1 .strings) ≡ length (r .strings) + sums stringOf is
-  unfolding total
-  section-strings r [] is h = rw (read-nil, none-left stringOf is h) (omega arith)
-  section-strings r (w ∷ ws) is h =
-      let a = code-strings r (take (wordRun w .count) is) in
-      let b = section-strings (replaceCode p r (sectionOf w is .instrs) .1) ws (drop (countOf w) is) (behind w ws is h) in
-      let c = parts stringOf w is in
+  section-count r [] is h = rw (read-nil, none-left f is h) (omega arith)
+  section-count r (w ∷ ws) is h =
+      let l : total ws ≡ length (drop (countOf w) is) = simp length-drop (omega arith) in
+      let a = code-count r (take (wordRun w .count) is) in
+      let b = section-count (replaceCode p r (sectionOf w is .instrs) .1) ws (drop (countOf w) is) l in
+      let c = parts f w is in
       rw read-cons (omega arith)
 
 -- ---- what is refused
@@ -139,13 +128,13 @@ module _ (t : Tables) (u : Counts) where
       numbers-are : length (whole .1 .numbers) ≡ u .numbers + n
       unfolding held
       numbers-are =
-          section-numbers (u .pool) (regsOf (t .numbers) (t .strings) (u .numbers) (u .strings)) (take (u .sections) (t .sections)) (take (u .instrs) (t .instrs)) covers
+          section-count (u .pool) (λ (r : Regs). length (r .numbers)) numberOf (one-numbers (u .pool)) (regsOf (t .numbers) (t .strings) (u .numbers) (u .strings)) (take (u .sections) (t .sections)) (take (u .instrs) (t .instrs)) covers
           ∙ rw (length-take-le (u .numbers) (t .numbers) (sound t u h .counts .numbers), a .numbers)
 
       strings-are : length (whole .1 .strings) ≡ u .strings + s
       unfolding held
       strings-are =
-          section-strings (u .pool) (regsOf (t .numbers) (t .strings) (u .numbers) (u .strings)) (take (u .sections) (t .sections)) (take (u .instrs) (t .instrs)) covers
+          section-count (u .pool) (λ (r : Regs). length (r .strings)) stringOf (one-strings (u .pool)) (regsOf (t .numbers) (t .strings) (u .numbers) (u .strings)) (take (u .sections) (t .sections)) (take (u .instrs) (t .instrs)) covers
           ∙ rw (length-map, length-take-le (u .strings) (t .strings) (sound t u h .counts .strings), a .strings)
 
       module _ (x y : Bool) (x-is : x ≡ (leb (u .numbers + n) (length (t .numbers)) && leb (u .numbers + n) mostCount)) (y-is : y ≡ (leb (u .strings + s) (length (t .strings)) && leb (u .strings + s) mostCount)) where

@@ -5,3 +5,4 @@ pub mod Texts
 pub mod InPlace
 pub mod Read
 pub mod Change
+pub mod Back

@@ -28,11 +28,19 @@ module _ (strings pool : List ℕ) (r : ℕ) where
 
   -- a part of the pool, and where it begins
   module _ (b o : ℕ) where
-    at-span : (s n : ℕ) → textSpan strings pool r ≡ spanOf s n → (take (s + n - s) (drop s pool) ≡ text strings pool r) × (_≡_ {A = ℕ × ℕ} (b, s + o) (b, textSpan strings pool r .start + o))
+    abbrev Given : List ℕ → ℕ → Type 0
+    Given part place = (part ≡ text strings pool r) × (_≡_ {A = ℕ × ℕ} (b, place + o) (b, textSpan strings pool r .start + o))
+
+    abbrev Part : ℕ → ℕ → Type 0
+    Part s n = Given (take (s + n - s) (drop s pool)) s
+
+    abbrev End : Type 0
+    End = Given (take (length pool - length pool) (drop (length pool) pool)) (length pool)
+
+    at-span : (s n : ℕ) → textSpan strings pool r ≡ spanOf s n → Part s n
     at-span s n e = (rw (text-is, e, add-sub-cancel-left), rw e)
 
-    at-end : textSpan strings pool r ≡ spanOf (length pool) 0 →
-        (take (length pool - length pool) (drop (length pool) pool) ≡ text strings pool r) × (_≡_ {A = ℕ × ℕ} (b, length pool + o) (b, textSpan strings pool r .start + o))
+    at-end : textSpan strings pool r ≡ spanOf (length pool) 0 → End
     at-end e = (rw (text-is, e, sub-self), rw e)
 
     span-none : none ≡ getElem? strings r → textSpan strings pool r ≡ spanOf (length pool) 0
@@ -44,19 +52,19 @@ module _ (strings pool : List ℕ) (r : ℕ) where
     span-some w e true f = rw (← e, ← f, textSpan)
     span-some w e false f = rw (← e, ← f, textSpan)
 
-    pub no-register : length strings ≤ r → (take (length pool - length pool) (drop (length pool) pool) ≡ text strings pool r) × (_≡_ {A = ℕ × ℕ} (b, length pool + o) (b, textSpan strings pool r .start + o))
+    pub no-register : length strings ≤ r → End
     no-register h = at-end (span-none (past-end strings r h))
 
     module _ (h : r < length strings) (z : ℕ) (z-is : z ≡ spanSpare (getD strings r 0)) where
-      pub no-zeros : (z ≡ 0 → ⊥) → (take (length pool - length pool) (drop (length pool) pool) ≡ text strings pool r) × (_≡_ {A = ℕ × ℕ} (b, length pool + o) (b, textSpan strings pool r .start + o))
+      pub no-zeros : (z ≡ 0 → ⊥) → End
       no-zeros n = at-end (span-some (getD strings r 0) (at-some strings r h) false (rw (← z-is, ne-eqb z 0 n)))
 
       module _ (e : z ≡ 0) (s n : ℕ) (s-is : s ≡ wordSpan (getD strings r 0) .start) (n-is : n ≡ wordSpan (getD strings r 0) .size) where
         inside : (t : Bool) → leb (s + n) (length pool) ≡ t → textSpan strings pool r ≡ cond t (wordSpan (getD strings r 0)) (spanOf (length pool) 0)
         inside t d = span-some (getD strings r 0) (at-some strings r h) t (rw (← z-is, eq-eqb z 0 e, ← s-is, ← n-is) (sym d))
 
-        pub past-pool : length pool < s + n → (take (length pool - length pool) (drop (length pool) pool) ≡ text strings pool r) × (_≡_ {A = ℕ × ℕ} (b, length pool + o) (b, textSpan strings pool r .start + o))
+        pub past-pool : length pool < s + n → End
         past-pool l = at-end (inside false (lt-leb _ _ l))
 
-        pub in-pool : s + n ≤ length pool → (take (s + n - s) (drop s pool) ≡ text strings pool r) × (_≡_ {A = ℕ × ℕ} (b, s + o) (b, textSpan strings pool r .start + o))
+        pub in-pool : s + n ≤ length pool → Part s n
         in-pool l = at-span s n (inside true (le-leb _ _ l) ∙ rw (s-is, n-is))
