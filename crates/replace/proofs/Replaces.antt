@@ -2,7 +2,7 @@
 use mathlib.Core.Path.{_≡_, refl, sym, ap, _∙_}
 use mathlib.Core.Bool.{Bool, true, false, cond, _&&_}
 use mathlib.Core.List.{List, [], _∷_, map}
-use Prim.Native.Nat.{ℕ, _+_, _^_, _<_}
+use Prim.Native.Nat.{ℕ, _+_, _^_, _<_, _≤_}
 use native.Mathlib.Omega.{arith}
 use lib.Dec.{leb}
 use lib.IntN.{ℤ}
@@ -98,40 +98,62 @@ four true true false d e = absurd (no e)
 four true false c d e = absurd (no e)
 four false b c d e = absurd (no e)
 
+-- ---- the replaced machine, its counts and its words
+
 module _ (t : Tables) (u : Counts) where
+  abbrev whole : List SectionCode × Regs
+  whole = wholeOf (t .sections) (t .instrs) (t .numbers) (t .strings) (u .sections) (u .instrs) (u .numbers) (u .strings) (u .pool)
+
+  abbrev made : Machine
+  made = record { lines = u .lines; sections = whole .0; numbers = whole .1 .numbers; strings = whole .1 .strings; pool = take (u .pool) (t .pool); values = u .values; names = take (u .names) (t .names) }
+
   -- the answer and the tables that a machine leaves
   abbrev left-by : Machine → Res Counts × Tables
   left-by m = (ok (countsOf m), write u m t)
 
-  pub replace-12 : fits t u ≡ false → (refused Refusal.breaksRules, t) ≡ replace t u
-  unfolding replace
-  replace-12 e = change-12 t u replaceIn e
-
-  module _ (h : fits t u ≡ true) where
-    abbrev whole : List SectionCode × Regs
-    whole = wholeOf (t .sections) (t .instrs) (t .numbers) (t .strings) (u .sections) (u .instrs) (u .numbers) (u .strings) (u .pool)
-
-    abbrev made : Machine
-    made = record { lines = u .lines; sections = whole .0; numbers = whole .1 .numbers; strings = whole .1 .strings; pool = take (u .pool) (t .pool); values = u .values; names = take (u .names) (t .names) }
-
+  module _ (pl : u .pool ≤ length (t .pool)) where
     pool-is : length (take (u .pool) (t .pool)) ≡ u .pool
-    pool-is = length-take-le (u .pool) (t .pool) (sound t u h .counts .pool)
+    pool-is = length-take-le (u .pool) (t .pool) pl
 
     made-is : replaced (machineOf t u) ≡ made
     unfolding replaced
     made-is = rw pool-is
 
+    -- what `replace_duplicates` leaves, for every caller of it
+    module _ (nl : u .names ≤ length (t .names)) (ss is : List ℕ) (ns : List ℤ) (ts : List ℕ) (b k r : ℕ)
+      (w : Rewrote (t .sections) (t .instrs) (t .numbers) (t .strings) ss is ns ts (u .sections) (u .instrs) (u .numbers) (u .strings) (u .pool) b k r) where
+      pub replaced-counts : countsOf (replaced (machineOf t u)) ≡ record { lines = u .lines; sections = u .sections; instrs = b; numbers = k; strings = r; pool = u .pool; names = u .names; values = u .values }
+      replaced-counts =
+          ap countsOf made-is
+          ∙ counts-of _ _ _ _ _ _ _ _ _ _ _ _ _ (sym (w .section-count)) (sym (w .instr-count)) (sym (w .number-count)) (sym (w .string-count)) pool-is (length-take-le (u .names) (t .names) nl)
+
+      pub replaced-words : write u (replaced (machineOf t u)) t ≡ record { sections = ss; instrs = is; numbers = ns; strings = ts; pool = t .pool; names = t .names }
+      replaced-words =
+          ap (λ (m : Machine). write u m t) made-is
+          ∙ written _ _ _ _ _ _ _ u t _ _ _ _ _ _ (sym (w .sections)) (sym (w .instrs)) (sym (w .numbers)) (sym (w .strings)) (put-back 0 (u .pool) (t .pool) pl) (put-back 0 (u .names) (t .names) nl)
+
+-- ---- the ways out
+
+module _ (t : Tables) (u : Counts) where
+  pub replace-12 : fits t u ≡ false → (refused Refusal.breaksRules, t) ≡ replace t u
+  unfolding replace
+  replace-12 e = change-12 t u replaceIn e
+
+  module _ (h : fits t u ≡ true) where
+    pool-fits : u .pool ≤ length (t .pool)
+    pool-fits = sound t u h .counts .pool
+
     covers : total (take (u .sections) (t .sections)) ≡ length (take (u .instrs) (t .instrs))
     covers = let s = sound t u h in whole-total t u s ∙ sym (length-take-le (u .instrs) (t .instrs) (s .counts .instrs))
 
     module _ (n s : ℕ) (a : AddsAll (t .instrs) (u .instrs) n s) where
-      numbers-are : length (whole .1 .numbers) ≡ u .numbers + n
+      numbers-are : length (whole t u .1 .numbers) ≡ u .numbers + n
       unfolding held
       numbers-are =
           section-count (u .pool) (λ (r : Regs). length (r .numbers)) numberOf (one-numbers (u .pool)) (regsOf (t .numbers) (t .strings) (u .numbers) (u .strings)) (take (u .sections) (t .sections)) (take (u .instrs) (t .instrs)) covers
           ∙ rw (length-take-le (u .numbers) (t .numbers) (sound t u h .counts .numbers), a .numbers)
 
-      strings-are : length (whole .1 .strings) ≡ u .strings + s
+      strings-are : length (whole t u .1 .strings) ≡ u .strings + s
       unfolding held
       strings-are =
           section-count (u .pool) (λ (r : Regs). length (r .strings)) stringOf (one-strings (u .pool)) (regsOf (t .numbers) (t .strings) (u .numbers) (u .strings)) (take (u .sections) (t .sections)) (take (u .instrs) (t .instrs)) covers
@@ -139,7 +161,7 @@ module _ (t : Tables) (u : Counts) where
 
       module _ (x y : Bool) (x-is : x ≡ (leb (u .numbers + n) (length (t .numbers)) && leb (u .numbers + n) mostCount)) (y-is : y ≡ (leb (u .strings + s) (length (t .strings)) && leb (u .strings + s) mostCount)) where
         room-is : (slots (replaced (machineOf t u) .numbers) (t .numbers) && slots (replaced (machineOf t u) .strings) (t .strings)) ≡ x && y
-        room-is = rw (made-is, slots-are (whole .1 .numbers) (t .numbers) (u .numbers + n) numbers-are, slots-are (whole .1 .strings) (t .strings) (u .strings + s) strings-are, x-is, y-is)
+        room-is = rw (made-is t u pool-fits, slots-are (whole t u .1 .numbers) (t .numbers) (u .numbers + n) numbers-are, slots-are (whole t u .1 .strings) (t .strings) (u .strings + s) strings-are, x-is, y-is)
 
         pub replace-11 : x && y ≡ false → (refused Refusal.noRoom, t) ≡ replace t u
         unfolding replace
@@ -164,23 +186,13 @@ module _ (t : Tables) (u : Counts) where
                 plain = strings-back t u k small;
               }
 
-          replaced-done : left-by (replaced (machineOf t u)) ≡ replace t u
+          replaced-done : left-by t u (replaced (machineOf t u)) ≡ replace t u
           unfolding replace
           replaced-done = change-ok t u replaceIn h (replaced (machineOf t u)) (replace-by t (machineOf t u) true (room-is ∙ e))
 
-          done : left-by made ≡ replace t u
-          done = ap left-by (sym made-is) ∙ replaced-done
-
           module _ (ss is : List ℕ) (ns : List ℤ) (ts : List ℕ) (b k r : ℕ) (w : Rewrote (t .sections) (t .instrs) (t .numbers) (t .strings) ss is ns ts (u .sections) (u .instrs) (u .numbers) (u .strings) (u .pool) b k r) where
-            counts-are : countsOf made ≡ record { lines = u .lines; sections = u .sections; instrs = b; numbers = k; strings = r; pool = u .pool; names = u .names; values = u .values }
-            counts-are =
-                counts-of _ _ _ _ _ _ _ _ _ _ _ _ _ (sym (w .section-count)) (sym (w .instr-count)) (sym (w .number-count)) (sym (w .string-count)) pool-is
-                (length-take-le (u .names) (t .names) (sound t u h .counts .names))
-
-            write-is : write u made t ≡ record { sections = ss; instrs = is; numbers = ns; strings = ts; pool = t .pool; names = t .names }
-            write-is =
-                let c = sound t u h .counts in
-                written _ _ _ _ _ _ _ u t _ _ _ _ _ _ (sym (w .sections)) (sym (w .instrs)) (sym (w .numbers)) (sym (w .strings)) (put-back 0 (u .pool) (t .pool) (c .pool)) (put-back 0 (u .names) (t .names) (c .names))
+            names-fit : u .names ≤ length (t .names)
+            names-fit = sound t u h .counts .names
 
             pub replace-done : (ok (record { lines = u .lines; sections = u .sections; instrs = b; numbers = k; strings = r; pool = u .pool; names = u .names; values = u .values }), record { sections = ss; instrs = is; numbers = ns; strings = ts; pool = t .pool; names = t .names }) ≡ replace t u
-            replace-done = rw (← counts-are, ← write-is) done
+            replace-done = rw (← replaced-counts t u pool-fits names-fit ss is ns ts b k r w, ← replaced-words t u pool-fits names-fit ss is ns ts b k r w) replaced-done
