@@ -121,7 +121,7 @@ module _ (t : Tables) (u : Counts) where
 
     -- what `replace_duplicates` leaves, for every caller of it
     module _ (nl : u .names ≤ length (t .names)) (ss is : List ℕ) (ns : List ℤ) (ts : List ℕ) (b k r : ℕ)
-      (w : Rewrote (t .sections) (t .instrs) (t .numbers) (t .strings) ss is ns ts (u .sections) (u .instrs) (u .numbers) (u .strings) (u .pool) b k r) where
+        (w : Rewrote (t .sections) (t .instrs) (t .numbers) (t .strings) ss is ns ts (u .sections) (u .instrs) (u .numbers) (u .strings) (u .pool) b k r) where
       pub replaced-counts : countsOf (replaced (machineOf t u)) ≡ record { lines = u .lines; sections = u .sections; instrs = b; numbers = k; strings = r; pool = u .pool; names = u .names; values = u .values }
       replaced-counts =
           ap countsOf made-is
