@@ -8,7 +8,9 @@ mod generate;
 mod judge;
 mod limits;
 mod line;
+mod lowering;
 mod machine;
+mod origin;
 mod record;
 mod rng;
 mod selftest;
@@ -16,6 +18,10 @@ mod selftest;
 mod tests;
 mod theorems;
 mod tree;
+mod walk;
+#[cfg(test)]
+mod walk_tests;
+mod walks;
 mod yogi;
 
 use judge::{Answer, Op, Options, Stage};
@@ -28,7 +34,8 @@ const USAGE: &str = "usage:
   oracle finlist < FILE
   oracle generate trees|damaged|machines SEED COUNT [MAXBYTES]
   oracle self-test SEED COUNT
-  oracle theorems trees|damaged|machines|finlist|texts|limits SEED COUNT DIR
+  oracle walks SEED COUNT
+  oracle theorems trees|damaged|machines|finlist|texts|limits|instr|walks SEED COUNT DIR
   oracle record trees|machines SEED";
 
 fn machine_line(machine: &machine::Machine) -> String {
@@ -92,8 +99,9 @@ fn generate_command(kind: &str, seed: &str, count: &str, most_bytes: usize) -> O
     Some(lines.join("\n"))
 }
 
-fn selftest_command(seed: &str, count: &str) -> Option<String> {
-    let (text, held) = selftest::run(seed.parse().ok()?, count.parse().ok()?);
+/// A report; if something is wrong, as an error.
+fn report_command(run: fn(u64, usize) -> (String, bool), seed: &str, count: &str) -> Option<String> {
+    let (text, held) = run(seed.parse().ok()?, count.parse().ok()?);
     if held {
         return Some(text);
     }
@@ -121,7 +129,8 @@ fn run(words: &[&str]) -> Option<String> {
         ["record", "trees", seed] => Some(record::of_trees(seed.parse().ok()?)),
         ["record", "machines", seed] => Some(record::of_machines(seed.parse().ok()?)),
         ["theorems", kind, seed, count, folder] => theorems_command(kind, seed, count, folder),
-        ["self-test", seed, count] => selftest_command(seed, count),
+        ["self-test", seed, count] => report_command(selftest::run, seed, count),
+        ["walks", seed, count] => report_command(walks::run, seed, count),
         _ => None,
     }
 }
