@@ -1,50 +1,61 @@
--- What a step that fills the node table gives.
+-- What a step that fills the node table gives: it refuses as a reader of rules does, or what that reader reads stands in the table.
 use mathlib.Core.Path.{_≡_}
 use mathlib.Core.List.{List, [], _∷_}
-use Prim.Native.Nat.{ℕ, _+_, _*_, _≤_, _<_}
+use Prim.Native.Nat.{ℕ, _+_, _-_, _*_, _≤_, _<_}
 use lib.ListN.{length, getD, set}
-use Rattle.rules.specs.Bits.{Res, refused, ok, isOne}
-use Rattle.rules.specs.Tree.{Counts, Expr, Stmt, Block, binop, unop, ident, number, string, goto, ite, assign, ofExpr, ofStmt, ofBlock}
-use Rattle.rules.specs.Parse.{Reader, At, expr, stmt, block, bits, many, nameOf, signed, operator, binops, unops, assignops, pure, refuse, _>>=_}
+use Rattle.rules.specs.Constants.{mostNodes, listBits, flagBits, mostDepth}
+use Rattle.rules.specs.Refusal.{unassigned}
+use Rattle.rules.specs.Bits.{Res, refused, ok}
+use Rattle.rules.specs.Tree.{Tally, Expr, Block, ofExpr, ofBlock}
+use Rattle.rules.specs.Parse.{Reader, At, expr, stmt, block, bits, nameOf, pure, refuse, _>>=_, exprKinds, stmtKinds, incdecOf, identOf, numberOf, stringOf}
 use Rattle.bits.specs.Reads.{Gives, at, Fine}
 use Rattle.bits.specs.declared.Cursor.{Cursor}
 use Rattle.bits.specs.declared.Step.{Step}
 use Rattle.bits.specs.declared.Step.the-variants.{Next, Refused}
-use Rattle.nodes.specs.Holds.{HoldsE, HoldsS, HoldsB, wordOf}
+use Rattle.nodes.specs.Width.{width, orOne}
+use Rattle.nodes.specs.Holds.{HoldsE, HoldsB, Flag}
 
 -- t' is as t from node i up to node j
 pub record Agree (i j : ℕ) (t t' : List ℕ) : Type 0 where
   pub same : (k : ℕ) → i ≤ k → k < j → getD t' k 0 ≡ getD t k 0
 
--- from node i, b statements and the strings of c, the counts k lead to c'
-pub record Counted (k : Counts) (i b : ℕ) (c c' : Cursor) : Type 0 where
-  pub nodes : c' .nodes ≡ i + k .nodes
-  pub statements : c' .statements ≡ b + k .statements
-  pub strings : c' .strings ≡ c .strings + k .strings
-  pub chars : c' .chars ≡ c .chars + k .characters
+-- from b the tally k and w sections lead to c
+pub record Counted (k : Tally) (w : ℕ) (b c : Cursor) : Type 0 where
+  pub nodes : c .nodes ≡ b .nodes + k .nodes
+  pub statements : c .statements ≡ b .statements + k .statements
+  pub sections : c .sections ≡ b .sections + w
+  pub strings : c .strings ≡ b .strings + k .strings
+  pub chars : c .chars ≡ b .chars + k .characters
 
--- r reads a value from c to c', whose nodes stand in t' from i on; below i the table is as it was
-pub record Built {A : Type 0} (r : Reader A) (H : List ℕ → ℕ → ℕ → A → ℕ → Type 0) (count : A → Counts) (s t t' : List ℕ) (i b : ℕ) (c : Cursor) (v : ℕ) (c' : Cursor) : Type 0 where
+-- r reads a value from c to c', whose nodes stand in t' from those of b on; below them the table is as it was
+pub record Built {A : Type 0} (r : Reader A) (H : List ℕ → ℕ → ℕ → A → ℕ → Type 0) (Q : A → Cursor → Cursor → Type 0) (s t t' : List ℕ) (b c : Cursor) (v : ℕ) (c' : Cursor) : Type 0 where
   pub val : A
   pub reads : Gives r s (at c) (ok (val, at c'))
-  pub holds : H t' v i val (c' .nodes)
-  pub kept : Agree 0 i t t'
-  pub counts : Counted (count val) i b c c'
+  pub holds : H t' v (b .nodes) val (c' .nodes)
+  pub kept : Agree 0 (b .nodes) t t'
+  pub counts : Q val b c'
   pub fine : Fine s c'
 
--- THE CONTRACT of a step: it refuses as r does, or has built what r reads
-abbrev pub BuildsAt : {A : Type 0} → Reader A → (List ℕ → ℕ → ℕ → A → ℕ → Type 0) → (A → Counts) → List ℕ → List ℕ → List ℕ → ℕ → ℕ → Cursor → Step → Type 0
-BuildsAt r H count s t t' i b c (Next v c') = Built r H count s t t' i b c v c'
-BuildsAt r H count s t t' i b c (Refused k) = Gives r s (at c) (refused k)
+abbrev pub BuildsAt : {A : Type 0} → Reader A → (List ℕ → ℕ → ℕ → A → ℕ → Type 0) → (A → Cursor → Cursor → Type 0) → List ℕ → List ℕ → List ℕ → Cursor → Cursor → Step → Type 0
+BuildsAt r H Q s t t' b c (Next v c') = Built r H Q s t t' b c v c'
+BuildsAt r H Q s t t' b c (Refused k) = Gives r s (at c) (refused k)
 
-pub record Builds {A : Type 0} (r : Reader A) (H : List ℕ → ℕ → ℕ → A → ℕ → Type 0) (count : A → Counts) (s t t' : List ℕ) (i b : ℕ) (c : Cursor) (st : Step) : Type 0 where
-  pub here : BuildsAt r H count s t t' i b c st
+-- the contract of a step
+pub record Builds {A : Type 0} (r : Reader A) (H : List ℕ → ℕ → ℕ → A → ℕ → Type 0) (Q : A → Cursor → Cursor → Type 0) (s t t' : List ℕ) (b c : Cursor) (st : Step) : Type 0 where
+  pub here : BuildsAt r H Q s t t' b c st
+
+-- ---- an expression
 
 abbrev pub heldE : List ℕ → ℕ → List ℕ → ℕ → ℕ → Expr → ℕ → Type 0
 heldE s n t v i e j = HoldsE t s n i e j
 
-abbrev pub heldS : List ℕ → ℕ → List ℕ → ℕ → ℕ → Stmt → ℕ → Type 0
-heldS s n t v i x j = HoldsS t s n i x j
+abbrev pub countE : Expr → Cursor → Cursor → Type 0
+countE e b c = Counted (ofExpr e) 0 b c
+
+abbrev pub ReadsExpr : List ℕ → List ℕ → List ℕ → Cursor → ℕ → ℕ → Step → Type 0
+ReadsExpr s t t' c n d r = Builds (expr n d) (heldE s n) countE s t t' c c r
+
+-- ---- a list of statements behind its count, which the step answers
 
 pub record HeldB (s : List ℕ) (n : ℕ) (t : List ℕ) (v i : ℕ) (x : Block) (j : ℕ) : Type 0 where
   pub is : HoldsB t s n v i x j
@@ -53,23 +64,40 @@ pub record HeldB (s : List ℕ) (n : ℕ) (t : List ℕ) (v i : ℕ) (x : Block)
 abbrev pub heldB : List ℕ → ℕ → List ℕ → ℕ → ℕ → Block → ℕ → Type 0
 heldB s n t v i x j = HeldB s n t v i x j
 
--- an expression, a statement, a list of statements behind its count
-abbrev pub ReadsExpr : List ℕ → List ℕ → List ℕ → Cursor → ℕ → ℕ → Step → Type 0
-ReadsExpr s t t' c n d r = Builds (expr n d) (heldE s n) ofExpr s t t' (c .nodes) (c .statements) c r
-
-abbrev pub ReadsStmt : List ℕ → List ℕ → List ℕ → Cursor → ℕ → ℕ → Step → Type 0
-ReadsStmt s t t' c n d r = Builds (stmt n d) (heldS s n) ofStmt s t t' (c .nodes) (c .statements) c r
+abbrev pub countB : Block → Cursor → Cursor → Type 0
+countB x b c = Counted (ofBlock x) (width x) b c
 
 unfoldable pub listR : ℕ → ℕ → Reader Block
-listR n d = bits 6 >>= λ k. block k (stmt n d)
+listR n d = do
+  k ← bits listBits
+  block k (stmt n d)
 
 abbrev pub ReadsList : List ℕ → List ℕ → List ℕ → Cursor → ℕ → ℕ → Step → Type 0
-ReadsList s t t' c n d r = Builds (listR n d) (heldB s n) ofBlock s t t' (c .nodes) (c .statements) c r
+ReadsList s t t' c n d r = Builds (listR n d) (heldB s n) countB s t t' c c r
 
--- what such a step asks
+-- ---- a statement, as what it puts before a list
+
+pub record HeldS (s : List ℕ) (n : ℕ) (t : List ℕ) (i : ℕ) (f : Block → Block) (l : ℕ) : Type 0 where
+  pub puts : (u : List ℕ) (m k : ℕ) (xs : Block) (z : ℕ) → m ≡ k + 1 → Agree i l t u → HoldsB u s n k l xs z → HoldsB u s n m i (f xs) z
+  pub grows : i < l
+
+abbrev pub heldS : List ℕ → ℕ → List ℕ → ℕ → ℕ → (Block → Block) → ℕ → Type 0
+heldS s n t v i f l = HeldS s n t i f l
+
+pub record Adds (f : Block → Block) (b c : Cursor) : Type 0 where
+  pub adds : (xs : Block) (e : Cursor) → countB xs c e → countB (f xs) b e
+
+abbrev pub countS : (Block → Block) → Cursor → Cursor → Type 0
+countS f b c = Adds f b c
+
+abbrev pub ReadsStmt : List ℕ → List ℕ → List ℕ → Cursor → ℕ → ℕ → Step → Type 0
+ReadsStmt s t t' c n d r = Builds (stmt n d) (heldS s n) countS s t t' c c r
+
+-- ---- what the steps ask
+
 pub record Ready (s t : List ℕ) (c : Cursor) (n : ℕ) : Type 0 where
   pub fine : Fine s c
-  pub room : 2048 ≤ length t
+  pub room : mostNodes ≤ length t
   pub names : n < 256
 
 -- node i has begun, and c stands behind its kind
@@ -78,72 +106,75 @@ pub record Begun (s t : List ℕ) (c : Cursor) (n i : ℕ) : Type 0 where
   pub begun : c .nodes ≡ i + 1
   pub strings : c .strings < c .nodes
 
+-- so has the statement i
+pub record BegunStmt (s t : List ℕ) (c : Cursor) (n i : ℕ) : Type 0 where
+  pub node : Begun s t c n i
+  pub statements : 0 < c .statements
+  pub sections : 0 < c .sections
+
+-- what was counted before node i, an expression or a statement, behind whose kind c stands
+abbrev pub before : ℕ → Cursor → Cursor
+before i c = record { pos = c .pos; nodes = i; statements = c .statements; sections = c .sections; strings = c .strings; chars = c .chars }
+
+abbrev pub beforeStmt : ℕ → Cursor → Cursor
+beforeStmt i c = record { pos = c .pos; nodes = i; statements = c .statements - 1; sections = c .sections - 1; strings = c .strings; chars = c .chars }
+
 -- the word w at node i, and nothing else
 pub record Closed (t t' : List ℕ) (i w : ℕ) (c : Cursor) (r : Step) : Type 0 where
   pub is : t' ≡ set t i w
   pub next : r ≡ Next 0 c
 
--- what stands behind the kind
+-- behind an Ite whose lists began at the sections a and b: their widths and the join are counted
+abbrev pub joined : ℕ → ℕ → Cursor → Cursor
+joined a b c = record { pos = c .pos; nodes = c .nodes; statements = c .statements; sections = a + orOne (b - a) + orOne (c .sections - b) + 1; strings = c .strings; chars = c .chars }
+
+-- the sections from a to b and from b to c are an Ite's lists
+pub record Spans (a b c : ℕ) : Type 0 where
+  pub first : a ≤ b
+  pub second : b ≤ c
+  pub small-first : b < a + 8192
+  pub small-second : c < b + 8192
+  pub all : c ≤ 8192
+
+-- ---- what stands behind a kind
 
 unfoldable pub flagR : ℕ → Reader (ℕ × ℕ)
-flagR n = bits 1 >>= λ b. nameOf n >>= λ x. pure (b, x)
-
-pub record Flag (kind n : ℕ) (t : List ℕ) (i : ℕ) (b x : ℕ) (j : ℕ) : Type 0 where
-  pub last : j ≡ i + 1
-  pub is : getD t i 0 ≡ wordOf kind b x 0 j
-  pub flag : b < 2
-  pub known : x < n
+flagR n = do
+  b ← bits flagBits
+  x ← nameOf n
+  pure (b, x)
 
 abbrev pub heldF : ℕ → ℕ → List ℕ → ℕ → ℕ → ℕ × ℕ → ℕ → Type 0
 heldF kind n t v i p j = Flag kind n t i (p .0) (p .1) j
 
-unfoldable pub incdecR : ℕ → Reader Expr
-incdecR n = bits 1 >>= λ b. nameOf n >>= λ x. pure (Expr.incdec (isOne b) x)
+-- one node more, whatever it is
+pub record OneNode (b c : Cursor) : Type 0 where
+  pub nodes : c .nodes ≡ b .nodes + 1
+  pub statements : c .statements ≡ b .statements
+  pub sections : c .sections ≡ b .sections
+  pub strings : c .strings ≡ b .strings
+  pub chars : c .chars ≡ b .chars
 
-unfoldable pub identR : ℕ → Reader Expr
-identR n = nameOf n >>= λ x. pure (ident x)
+abbrev pub countF : ℕ × ℕ → Cursor → Cursor → Type 0
+countF p b c = OneNode b c
 
-unfoldable pub numberR : Reader Expr
-numberR = bits 64 >>= λ v. pure (number (signed v))
-
-unfoldable pub stringR : Reader Expr
-stringR = bits 7 >>= λ l. many l (bits 7) >>= λ t. pure (string t)
+unfoldable pub exprArm : ℕ → ℕ → ℕ → Reader Expr
+exprArm n d k = getD (exprKinds n (expr n d)) k (refuse unassigned)
 
 -- an expression's, but for those with operands
 unfoldable pub leafR : ℕ → ℕ → Reader Expr
-leafR n k = getD (refuse 4 ∷ refuse 4 ∷ incdecR n ∷ identR n ∷ numberR ∷ stringR ∷ []) k (refuse 4)
+leafR n k = getD (refuse unassigned ∷ refuse unassigned ∷ incdecOf n ∷ identOf n ∷ numberOf ∷ stringOf ∷ []) k (refuse unassigned)
 
-unfoldable pub binopR : ℕ → ℕ → Reader Expr
-binopR n d = operator 4 binops >>= λ o. expr n d >>= λ l. expr n d >>= λ r. pure (binop o l r)
+unfoldable pub stmtArm : ℕ → ℕ → ℕ → Reader (Block → Block)
+stmtArm n d k = getD (stmtKinds n (expr n d) (stmt n d)) k (refuse unassigned)
 
-unfoldable pub unopR : ℕ → ℕ → Reader Expr
-unopR n d = operator 4 unops >>= λ o. expr n d >>= λ r. pure (unop o r)
-
-unfoldable pub exprArm : ℕ → ℕ → ℕ → Reader Expr
-exprArm n d k = getD (binopR n d ∷ unopR n d ∷ incdecR n ∷ identR n ∷ numberR ∷ stringR ∷ []) k (refuse 4)
-
-unfoldable pub gotoR : ℕ → ℕ → Reader Stmt
-gotoR n d = expr n d >>= λ e. pure (goto e)
-
-unfoldable pub iteR : ℕ → ℕ → Reader Stmt
-iteR n d = expr n d >>= λ c. bits 6 >>= λ i. block i (stmt n d) >>= λ t. bits 6 >>= λ j. block j (stmt n d) >>= λ e. pure (ite c t e)
-
-unfoldable pub incdecS : ℕ → Reader Stmt
-incdecS n = bits 1 >>= λ i. nameOf n >>= λ x. pure (Stmt.incdec (isOne i) x)
-
-unfoldable pub assignR : ℕ → ℕ → Reader Stmt
-assignR n d = nameOf n >>= λ x. operator 3 assignops >>= λ o. expr n d >>= λ e. pure (assign x o e)
-
-unfoldable pub stmtArm : ℕ → ℕ → ℕ → Reader Stmt
-stmtArm n d k = getD (gotoR n d ∷ iteR n d ∷ incdecS n ∷ assignR n d ∷ []) k (refuse 4)
-
--- MIDWAY through a list of `total` statements that began at node i and b statements: `left` are left from c on, and what they give the whole gives with `pre` before it
-pub record Midway (n dep : ℕ) (s t0 t : List ℕ) (i b : ℕ) (c0 c : Cursor) (total left : ℕ) : Type 0 where
+-- midway through a list of `total` statements that began at c0: `left` are left from c on, and what they give the whole gives with `pre` before it
+pub record Midway (n dep : ℕ) (s t0 t : List ℕ) (c0 c : Cursor) (total left : ℕ) : Type 0 where
   pub pre : Block → Block
   pub goes : (xs : Block) (e : At) → Gives (block left (stmt n dep)) s (at c) (ok (xs, e)) → Gives (block total (stmt n dep)) s (at c0) (ok (pre xs, e))
   pub stops : (x : ℕ) → Gives (block left (stmt n dep)) s (at c) (refused x) → Gives (block total (stmt n dep)) s (at c0) (refused x)
-  pub holds : (u : List ℕ) (xs : Block) (j : ℕ) → Agree i (c .nodes) t u → HoldsB u s n left (c .nodes) xs j → HoldsB u s n total i (pre xs) j
-  pub counts : (xs : Block) (e : Cursor) → Counted (ofBlock xs) (c .nodes) (c .statements) c e → Counted (ofBlock (pre xs)) i b c0 e
-  pub kept : Agree 0 i t0 t
-  pub after : i ≤ c .nodes
+  pub holds : (u : List ℕ) (xs : Block) (j : ℕ) → Agree (c0 .nodes) (c .nodes) t u → HoldsB u s n left (c .nodes) xs j → HoldsB u s n total (c0 .nodes) (pre xs) j
+  pub counts : (xs : Block) (e : Cursor) → countB xs c e → countB (pre xs) c0 e
+  pub kept : Agree 0 (c0 .nodes) t0 t
+  pub after : c0 .nodes ≤ c .nodes
   pub fine : Fine s c

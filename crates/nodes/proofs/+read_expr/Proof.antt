@@ -1,7 +1,8 @@
+use Rattle.rules.specs.Parse.{binopOf, unopOf}
 use Rattle.nodes.proofs.Table.{agree-part, agree-trans, moved}
 use Rattle.nodes.proofs.Arms.{expr-deep, expr-stop, arm-binop, arm-unop, arm-leaf}
 use Rattle.nodes.specs.Holds.{at-binop, at-unop}
-use Rattle.nodes.specs.Builds.{binopR, unopR}
+use Rattle.nodes.specs.Builds.{before}
 use Rattle.bits.proofs.Gives.{picked, op-ok, op-no}
 use Rattle.rules.specs.Parse.{binops, unops}
 use Rattle.rules.specs.Tree.{both}
@@ -74,7 +75,7 @@ module _ (t : ℕ) where
   enum-told-2 c = search needs
 
   returns-3 : read-expr-lts.Need-returns-3 claims given read-expr.Post
-  unfolding binopR binops
+  unfolding binopOf binops
   returns-3 c =
       let e = c .enum-told2 .given .1 in
       let b = took (c .before .before .before .before .before .before .before .begin .ensures) (c .before .before .before .before .before .r .given .1) in
@@ -96,7 +97,7 @@ module _ (t : ℕ) where
   same-length c = search needs
 
   returns-4 : read-expr-lts.Need-returns-4 claims given read-expr.Post
-  unfolding binopR binops
+  unfolding binopOf binops
   returns-4 c =
       let e = c .enum-told3 .given .1 in
       let b = took (c .before .before .before .before .before .before .before .before .before .before .before .before .before .before .begin .ensures) (c .before .before .before .before .before .before .before .before .before .before .before .before .r .given .1) in
@@ -121,7 +122,7 @@ module _ (t : ℕ) where
   same-length-2 c = search needs
 
   returns-5 : read-expr-lts.Need-returns-5 claims given read-expr.Post
-  unfolding binopR binops
+  unfolding binopOf binops
   returns-5 c =
       let e = c .enum-told4 .given .1 in
       let b = took (c .before .before .before .before .before .before .before .before .before .before .before .before .before .before .before .before .before .before .before .before .before .begin .ensures) (c .before .before .before .before .before .before .before .before .before .before .before .before .before .before .before .before .before .before .before .r .given .1) in
@@ -152,7 +153,7 @@ module _ (t : ℕ) where
   enum-told-5 c = search needs
 
   returns-6 : read-expr-lts.Need-returns-6 claims given read-expr.Post
-  unfolding unopR unops
+  unfolding unopOf unops
   returns-6 c =
       let e = c .enum-told5 .given .1 in
       let b = took (c .before .before .before .before .before .before .before .begin .ensures) (c .before .before .before .before .before .r .given .1) in
@@ -174,7 +175,7 @@ module _ (t : ℕ) where
   same-length-3 c = search needs
 
   returns-7 : read-expr-lts.Need-returns-7 claims given read-expr.Post
-  unfolding unopR unops
+  unfolding unopOf unops
   returns-7 c =
       let e = c .enum-told6 .given .1 in
       let b = took (c .before .before .before .before .before .before .before .before .before .before .before .before .before .before .begin .ensures) (c .before .before .before .before .before .before .before .before .before .before .before .before .r .given .1) in
@@ -201,7 +202,7 @@ module _ (t : ℕ) where
   same-length-4 c = search needs
 
   returns-8 : read-expr-lts.Need-returns-8 claims given read-expr.Post
-  unfolding binopR binops ofExpr node both
+  unfolding binopOf binops ofExpr node both
   returns-8 c =
       let p = c .before .before .before .before .before .before .before .before .before .before .before .before .before .before .before .before .before .before .before .before .before .before .before .before .before .before .before .before .before .before .pre .1 in
       let b = took (c .before .before .before .before .before .before .before .before .before .before .before .before .before .before .before .before .before .before .before .before .before .before .before .before .before .before .begin .ensures) (c .before .before .before .before .before .before .before .before .before .before .before .before .before .before .before .before .before .before .before .before .before .before .before .before .r .given .1) in
@@ -221,7 +222,7 @@ module _ (t : ℕ) where
   same-length-5 c = search needs
 
   returns-9 : read-expr-lts.Need-returns-9 claims given read-expr.Post
-  unfolding unopR unops ofExpr node
+  unfolding unopOf unops ofExpr node
   returns-9 c =
       let p = c .before .before .before .before .before .before .before .before .before .before .before .before .before .before .before .before .before .before .before .before .before .before .before .pre .1 in
       let b = took (c .before .before .before .before .before .before .before .before .before .before .before .before .before .before .before .before .before .before .before .begin .ensures) (c .before .before .before .before .before .before .before .before .before .before .before .before .before .before .before .before .before .r .given .1) in
@@ -242,7 +243,8 @@ module _ (t : ℕ) where
   returns-10 c =
       let b = took (c .before .before .before .before .before .before .before .before .begin .ensures) (c .before .before .before .before .before .before .r .given .1) in
       let k = c .before .before .before .before .match2 .rest in
-      behind (λ res g. arm-leaf _ _ (c .before .before .before .before .before .before .before .before .before .if1 .left) (k .0 .1) (k .1) (b .reads) g) (b .moved .strings) (b .moved .chars) (omega arith) (c .before .before .leaf .ensures)
+      let m = b .moved in
+      behind (λ res g. arm-leaf _ _ (c .before .before .before .before .before .before .before .before .before .if1 .left) (k .0 .1) (k .1) (b .reads) g) refl (λ x d n. omega arith) (c .before .before .leaf .ensures)
 
 pub +read-expr-spec : {M : Type 1} → statement M
 +read-expr-spec = close μ (λ t. read-expr-lts.spec (claims t) (given t) read-expr.Post (returns t) (sub-d t) (begin-requires t) (enum-known-r t) (enum-told t) (returns-2 t) (below-requires t) (enum-known-r1 t) (enum-told-2 t) (returns-3 t) (read-expr-requires t) (enum-known-r2 t) (enum-told-3 t) (same-length t) (returns-4 t) (read-expr-requires-2 t) (enum-known-r3 t) (enum-told-4 t) (same-length-2 t) (returns-5 t) (close-requires t) (below-requires-2 t) (enum-known-r1-2 t) (enum-told-5 t) (returns-6 t) (read-expr-requires-3 t) (enum-known-r2-2 t) (enum-told-6 t) (same-length-3 t) (returns-7 t) (close-requires-2 t) (leaf-requires t) (same-length-4 t) (returns-8 t) (same-length-5 t) (returns-9 t) (same-length-6 t) (returns-10 t))

@@ -6,23 +6,18 @@ use Rattle.nodes.proofs.close.Reads as reads
 use Rattle.nodes.proofs.close.Lts as lts
 use Rattle.nodes.proofs.word.Reads as word-reads
 
--- src/lib.rt:24:9
 word-requires : tie.Need-word-requires
 word-requires c κs = search needs
 
--- src/lib.rt:25:5
 mul-t : tie.Need-mul-t
 mul-t c = search needs
 
--- src/lib.rt:25:5
 slice-write-t : tie.Need-slice-write-t
 slice-write-t c = search needs
 
--- src/lib.rt:20:1
 same-length : tie.Need-same-length
 same-length c = search needs
 
--- src/lib.rt:20:1
 returns : tie.Need-returns
 returns c =
     rw (← c .word .ensures) (record { is = refl; next = refl })

@@ -15,40 +15,32 @@ use Rattle.bits.proofs.below.Reads as below-reads
 use Rattle.bits.proofs.take.Reads as take-reads
 use Rattle.nodes.proofs.close.Reads as close-reads
 
--- src/lib.rt:34:9
 take-requires : tie.Need-take-requires
 take-requires c κs = search needs
 
--- src/lib.rt:35:20
 enum-known-r : tie.Need-enum-known-r
 enum-known-r c = search needs
 
--- src/lib.rt:36:9
 enum-told : tie.Need-enum-told
 enum-told c = search needs
 
--- src/lib.rt:36:9
 returns : tie.Need-returns
 unfolding flagR
 returns c =
     let e = c .enum-told .given .1 in
     refuses e (stop _ (failed (c .before .before .take .ensures) e))
 
--- src/lib.rt:38:9
 below-requires : tie.Need-below-requires
 below-requires c κs =
     let b = took (c .before .before .before .take .ensures) (c .before .r .given .1) in
     (b .fine, omega arith)
 
--- src/lib.rt:39:20
 enum-known-r1 : tie.Need-enum-known-r1
 enum-known-r1 c = search needs
 
--- src/lib.rt:40:9
 enum-told-2 : tie.Need-enum-told-2
 enum-told-2 c = search needs
 
--- src/lib.rt:40:9
 returns-2 : tie.Need-returns-2
 unfolding flagR
 returns-2 c =
@@ -56,7 +48,6 @@ returns-2 c =
     let b = took (c .before .before .before .before .before .before .take .ensures) (c .before .before .before .before .r .given .1) in
     refuses e (then _ (b .reads) (stop _ (named _ (failed (c .before .before .below .ensures) e))))
 
--- src/lib.rt:42:5
 close-requires : tie.Need-close-requires
 close-requires c κs =
     let p = c .before .before .before .before .before .before .before .before .before .before .before .pre in
@@ -64,11 +55,9 @@ close-requires c κs =
     let x = took (c .before .before .before .before .below .ensures) (c .before .before .r1 .given .1) in
     omega arith
 
--- src/lib.rt:30:1
 same-length : tie.Need-same-length
 same-length c = search needs
 
--- src/lib.rt:30:1
 returns-3 : tie.Need-returns-3
 unfolding flagR node none
 returns-3 c =

@@ -1,5 +1,6 @@
+use Rattle.rules.specs.Parse.{identOf}
 use Rattle.nodes.specs.Holds.{at-ident}
-use Rattle.nodes.specs.Builds.{identR}
+use Rattle.nodes.specs.Builds.{before}
 use Rattle.nodes.proofs.Table.{agree-refl}
 use Rattle.nodes.proofs.Built.{sealed, refuses, built, unbuilt, behind}
 use Rattle.bits.proofs.Gives.{then, stop, done, took, failed, skipped, not-skipped, named, spells}
@@ -15,39 +16,32 @@ use Rattle.nodes.proofs.ident.Lts as lts
 use Rattle.bits.proofs.below.Reads as below-reads
 use Rattle.nodes.proofs.close.Reads as close-reads
 
--- src/lib.rt:49:9
 below-requires : tie.Need-below-requires
 below-requires c κs = search needs
 
--- src/lib.rt:50:20
 enum-known-r : tie.Need-enum-known-r
 enum-known-r c = search needs
 
--- src/lib.rt:51:9
 enum-told : tie.Need-enum-told
 enum-told c = search needs
 
--- src/lib.rt:51:9
 returns : tie.Need-returns
-unfolding identR
+unfolding identOf
 returns c =
     let e = c .enum-told .given .1 in
     refuses e (stop _ (named _ (failed (c .before .before .below .ensures) e)))
 
--- src/lib.rt:53:5
 close-requires : tie.Need-close-requires
 close-requires c κs =
     let p = c .before .before .before .before .before .before .before .pre in
     let x = took (c .before .before .before .before .below .ensures) (c .before .before .r .given .1) in
     omega arith
 
--- src/lib.rt:45:1
 same-length : tie.Need-same-length
 same-length c = search needs
 
--- src/lib.rt:45:1
 returns-2 : tie.Need-returns-2
-unfolding identR ofExpr node none
+unfolding identOf ofExpr node none
 returns-2 c =
     let p = c .before .before .before .before .before .before .before .before .before .before .pre in
     let x = took (c .before .before .before .before .before .before .before .below .ensures) (c .before .before .before .before .before .r .given .1) in

@@ -10,63 +10,50 @@ use Rattle.nodes.proofs.ident.Reads as ident-reads
 use Rattle.nodes.proofs.number.Reads as number-reads
 use Rattle.nodes.proofs.string.Reads as string-reads
 
--- src/lib.rt:92:14
 flagged-requires : tie.Need-flagged-requires
 flagged-requires c κs = search needs
 
--- src/lib.rt:93:14
 ident-requires : tie.Need-ident-requires
 ident-requires c κs = search needs
 
--- src/lib.rt:94:14
 number-requires : tie.Need-number-requires
 number-requires c κs = search needs
 
--- src/lib.rt:95:14
 string-requires : tie.Need-string-requires
 string-requires c κs = search needs
 
--- src/lib.rt:87:1
 same-length : tie.Need-same-length
 same-length c = search needs
 
--- src/lib.rt:87:1
 returns : tie.Need-returns
 unfolding leafR
 returns c =
-    rw (c .before .before .before .before .match .keys1) (incdec-leaf _ (c .before .before .flagged .ensures))
+    rw (c .before .before .before .before .match .keys1) (incdec-leaf _ _ (c .before .before .flagged .ensures))
 
--- src/lib.rt:87:1
 same-length-2 : tie.Need-same-length-2
 same-length-2 c = search needs
 
--- src/lib.rt:87:1
 returns-2 : tie.Need-returns-2
 unfolding leafR
 returns-2 c =
     rw (c .before .before .before .before .match .keys2) (c .before .before .ident .ensures)
 
--- src/lib.rt:87:1
 same-length-3 : tie.Need-same-length-3
 same-length-3 c = search needs
 
--- src/lib.rt:87:1
 returns-3 : tie.Need-returns-3
 unfolding leafR
 returns-3 c =
     rw (c .before .before .before .before .match .keys3) (c .before .before .number .ensures)
 
--- src/lib.rt:87:1
 same-length-4 : tie.Need-same-length-4
 same-length-4 c = search needs
 
--- src/lib.rt:87:1
 returns-4 : tie.Need-returns-4
 unfolding leafR
 returns-4 c =
     rw (c .before .before .before .before .match .keys4) (c .before .before .string .ensures)
 
--- src/lib.rt:87:1
 returns-5 : tie.Need-returns-5
 returns-5 c =
     let r = c .match .rest in

@@ -1,8 +1,9 @@
+use Rattle.rules.specs.Parse.{stringOf}
 use Rattle.bits.specs.Reads.{charsAt}
 use Rattle.nodes.proofs.Built.{chars-length}
 use lib.ListN.{length}
 use Rattle.nodes.specs.Holds.{at-string}
-use Rattle.nodes.specs.Builds.{stringR}
+use Rattle.nodes.specs.Builds.{before}
 use Rattle.nodes.proofs.Table.{agree-refl}
 use Rattle.nodes.proofs.Built.{sealed, refuses, built, unbuilt, behind}
 use Rattle.bits.proofs.Gives.{then, stop, done, took, failed, skipped, not-skipped, named, spells}
@@ -19,61 +20,50 @@ use Rattle.bits.proofs.skip.Reads as skip-reads
 use Rattle.bits.proofs.take.Reads as take-reads
 use Rattle.nodes.proofs.close.Reads as close-reads
 
--- src/lib.rt:71:9
 take-requires : tie.Need-take-requires
 take-requires c κs = search needs
 
--- src/lib.rt:72:20
 enum-known-r : tie.Need-enum-known-r
 enum-known-r c = search needs
 
--- src/lib.rt:73:9
 enum-told : tie.Need-enum-told
 enum-told c = search needs
 
--- src/lib.rt:73:9
 returns : tie.Need-returns
-unfolding stringR
+unfolding stringOf
 returns c =
     let e = c .enum-told .given .1 in
     refuses e (stop _ (failed (c .before .before .take .ensures) e))
 
--- src/lib.rt:76:9
 skip-requires : tie.Need-skip-requires
 skip-requires c κs =
     let b = took (c .before .before .before .take .ensures) (c .before .r .given .1) in
     (b .fine, omega arith)
 
--- src/lib.rt:77:23
 enum-known-r1 : tie.Need-enum-known-r1
 enum-known-r1 c = search needs
 
--- src/lib.rt:78:9
 enum-told-2 : tie.Need-enum-told-2
 enum-told-2 c = search needs
 
--- src/lib.rt:78:9
 returns-2 : tie.Need-returns-2
-unfolding stringR
+unfolding stringOf
 returns-2 c =
     let e = c .enum-told2 .given .1 in
     let b = took (c .before .before .before .before .before .before .take .ensures) (c .before .before .before .before .r .given .1) in
     refuses e (then _ (b .reads) (stop _ (not-skipped (c .before .before .skip .ensures) e)))
 
--- src/lib.rt:81:17
 add-g : tie.Need-add-g
 add-g c =
     let x = skipped (c .before .before .before .before .skip .ensures) (c .before .before .r1 .given .1) in
     omega arith
 
--- src/lib.rt:82:15
 add-g-2 : tie.Need-add-g-2
 add-g-2 c =
     let b = took (c .before .before .before .before .before .before .before .before .before .take .ensures) (c .before .before .before .before .before .before .before .r .given .1) in
     let x = skipped (c .before .before .before .before .before .skip .ensures) (c .before .before .before .r1 .given .1) in
     omega arith
 
--- src/lib.rt:83:5
 close-requires : tie.Need-close-requires
 close-requires c κs =
     let p = c .before .before .before .before .before .before .before .before .before .before .before .before .before .pre in
@@ -81,13 +71,11 @@ close-requires c κs =
     let x = skipped (c .before .before .before .before .before .before .skip .ensures) (c .before .before .before .before .r1 .given .1) in
     omega arith
 
--- src/lib.rt:67:1
 same-length : tie.Need-same-length
 same-length c = search needs
 
--- src/lib.rt:67:1
 returns-3 : tie.Need-returns-3
-unfolding stringR ofExpr node none
+unfolding stringOf ofExpr node none
 returns-3 c =
     let p = c .before .before .before .before .before .before .before .before .before .before .before .before .before .before .before .before .pre in
     let b = took (c .before .before .before .before .before .before .before .before .before .before .before .before .before .take .ensures) (c .before .before .before .before .before .before .before .before .before .before .before .r .given .1) in
