@@ -33,9 +33,9 @@ stepKind = 10
 abbrev pub assignKind : ℕ
 assignKind = 11
 
--- kind (4 bits), operator or flag (4), name or count (8), bit position of what is read again (19), node behind the subtree (12), a width (13)
+-- kind (4 bits), operator or flag (4), name or count (8), bit position of what is read again (19), a width (13), node behind the subtree (12)
 unfoldable pub wordOf : ℕ → ℕ → ℕ → ℕ → ℕ → ℕ → ℕ
-wordOf kind op name pos last width = kind + 16 * (op + 16 * (name + 256 * (pos + 524288 * (last + 4096 * width))))
+wordOf kind op name pos last width = kind + 16 * (op + 16 * (name + 256 * (pos + 524288 * (width + 8192 * last))))
 
 -- an Ite: the counts a and b of its lists, their widths v and w; b and w share the field of a position
 abbrev pub iteWord : ℕ → ℕ → ℕ → ℕ → ℕ → ℕ
