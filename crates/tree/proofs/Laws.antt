@@ -1,4 +1,4 @@
--- Laws of lines and of the whole file.
+-- Laws of lines and of the whole file. Assumes nothing.
 use mathlib.Core.Path.{_≡_, refl, sym, _∙_, ap}
 use mathlib.Core.Bool.{Bool, true, false}
 use mathlib.Core.List.{List, [], _∷_}
@@ -8,9 +8,11 @@ use native.Mathlib.Numerals.{add-one, sub-one}
 use borrow.Author.Tests.{eq-eqb, ne-eqb, lt-ltb, le-ltb, le-leb, lt-leb}
 use lib.Dec.{eqb, ltb, leb}
 use lib.ListN.{length, getD, set}
+use Rattle.rules.specs.Constants.{mostBytes, mostDepth, form, headBits, nameBits, byteBits}
+use Rattle.rules.specs.Refusal.{otherForm, zeroLines, leftOver, tooLong}
 use Rattle.rules.specs.Bits.{Res, refused, ok, spelled}
 use Rattle.rules.specs.Tree.{Name, Block, Tree, ofBlock, ofLines, both, none}
-use Rattle.rules.specs.Parse.{Reader, At, bits, names, many, fill, file, parse, demand, pure, refuse, _>>=_}
+use Rattle.rules.specs.Parse.{Reader, At, bits, names, many, fill, lineBlock, body, file, parse, demand, pure, refuse, _>>=_}
 use Rattle.rules.specs.Operations.{size, sizeOf}
 use Rattle.bits.specs.Reads.{Gives, Fine, Took, at}
 use Rattle.bits.specs.declared.Cursor.{Cursor}
@@ -18,30 +20,32 @@ use Rattle.bits.specs.declared.Step.{Step}
 use Rattle.bits.specs.declared.Step.the-variants.{Next, Refused}
 use Rattle.bits.proofs.Gives.{then, stop, done}
 use Rattle.names.specs.Names.{namesAt, NamedAll}
-use Rattle.nodes.specs.Builds.{listR, Agree, Counted, Built, heldB}
+use Rattle.nodes.specs.Builds.{listR, Built, heldB, countB}
+use Rattle.nodes.specs.Width.{width}
 use Rattle.nodes.specs.Holds.{HoldsB}
-use Rattle.nodes.proofs.Only.{Same, one-b, begin-at}
+use Rattle.nodes.proofs.Exprs.{Same}
+use Rattle.nodes.proofs.Blocks.{one-b, begin-at}
 use Rattle.nodes.proofs.Table.{agree-refl, agree-part, agree-trans, moved-b, grows-b, set-below, set-here}
 use Rattle.tree.specs.declared.Sizes.{Sizes}
 use Rattle.tree.specs.declared.SizeAnswer.{SizeAnswer}
 use Rattle.tree.specs.declared.SizeAnswer.the-variants.{Sized, Refused as No}
-use Rattle.tree.specs.Whole.{lineWord, HoldsL, no-line, a-line, Lined, LinesMid, LinesRead, Filed, FileRead, Treed, TreeRead, start, sized, sizeRes, fileTail}
+use Rattle.tree.specs.Files.{lineWord, HoldsL, no-line, a-line, Lined, LinesMid, LinesRead, Filed, FileRead, Treed, TreeRead, start, widths, sized, sizeRes}
 
--- THE END
+-- ---- the end
 
-pub fill-long : (s : List ℕ) (c : At) → 8 ≤ 8 * length s - c .pos → Gives fill s c (refused 9)
+pub fill-long : (s : List ℕ) (c : At) → 8 ≤ byteBits * length s - c .pos → Gives fill s c (refused leftOver)
 unfolding fill
-fill-long s c h = record { is = rw (le-ltb (8 * length s - c .pos) 8 h, fill) }
+fill-long s c h = record { is = rw (le-ltb (byteBits * length s - c .pos) 8 h, fill) }
 
-pub fill-bits : (s : List ℕ) (c : At) → 8 * length s - c .pos < 8 → (spelled s (8 * length s - c .pos) (c .pos) ≡ 0 → ⊥) → Gives fill s c (refused 9)
+pub fill-bits : (s : List ℕ) (c : At) → byteBits * length s - c .pos < 8 → (spelled s (byteBits * length s - c .pos) (c .pos) ≡ 0 → ⊥) → Gives fill s c (refused leftOver)
 unfolding fill demand refuse
-fill-bits s c h e = record { is = rw (lt-ltb (8 * length s - c .pos) 8 h, ne-eqb (spelled s (8 * length s - c .pos) (c .pos)) 0 e, fill) }
+fill-bits s c h e = record { is = rw (lt-ltb (byteBits * length s - c .pos) 8 h, ne-eqb (spelled s (byteBits * length s - c .pos) (c .pos)) 0 e, fill) }
 
-pub fill-ok : (s : List ℕ) (c : At) → 8 * length s - c .pos < 8 → spelled s (8 * length s - c .pos) (c .pos) ≡ 0 → Gives fill s c (ok (9, c))
+pub fill-ok : (s : List ℕ) (c : At) → byteBits * length s - c .pos < 8 → spelled s (byteBits * length s - c .pos) (c .pos) ≡ 0 → Gives fill s c (ok (leftOver, c))
 unfolding fill demand pure
-fill-ok s c h e = record { is = rw (lt-ltb (8 * length s - c .pos) 8 h, eq-eqb (spelled s (8 * length s - c .pos) (c .pos)) 0 e, fill) }
+fill-ok s c h e = record { is = rw (lt-ltb (byteBits * length s - c .pos) 8 h, eq-eqb (spelled s (byteBits * length s - c .pos) (c .pos)) 0 e, fill) }
 
--- LINES
+-- ---- lines
 
 many-end : {A : Type 0} (k : ℕ) (r : Reader A) {s : List ℕ} {c : At} → k ≤ 0 → Gives (many k r) s c (ok ([], c))
 unfolding many
@@ -63,6 +67,11 @@ unfolding many
 many-stop zero h g = absurd (omega arith)
 many-stop (suc k) h g = stop _ g
 
+-- a line is a list at the full depth
+line-from : (n : ℕ) {s : List ℕ} {c : At} {res : Res (Block × At)} → Gives (listR n mostDepth) s c res → Gives (lineBlock n) s c res
+unfolding listR lineBlock
+line-from n g = g
+
 pub lines-start : (n total : ℕ) (s t ls : List ℕ) (c : Cursor) → Fine s c → LinesMid n total s t ls c c 0
 lines-start n total s t ls c f =
     let e : total - 0 ≡ total = omega arith in
@@ -78,9 +87,9 @@ lines-start n total s t ls c f =
     }
 
 module _ {n total : ℕ} {s t ls : List ℕ} {c d : Cursor} {k : ℕ} (m : LinesMid n total s t ls c d k) where
-  pub lines-more : {t' : List ℕ} {v : ℕ} {e : Cursor} (ls' : List ℕ) → k < total → k < length ls → ls' ≡ set ls k (v + 64 * d .nodes) → Built (listR n 64) (heldB s n) ofBlock s t t' (d .nodes) (d .statements) d v e
+  pub lines-more : {t' : List ℕ} {v : ℕ} {e : Cursor} (ls' : List ℕ) → k < total → k < length ls → ls' ≡ set ls k (v + 64 * d .nodes) → Built (listR n mostDepth) (heldB s n) countB s t t' d d v e
       → LinesMid n total s t' ls' c e (k + 1)
-  unfolding ofLines both lineWord
+  unfolding ofLines both lineWord widths
   lines-more {t' = t'} {v = v} {e = e} ls' h l w x =
       let g = grows-b (x .holds .is) in
       let a = m .after in
@@ -88,8 +97,8 @@ module _ {n total : ℕ} {s t ls : List ℕ} {c d : Cursor} {k : ℕ} (m : Lines
       let i : total - (k + 1) ≡ total - k - 1 = omega arith in
       record {
         pre = λ xs. m .pre (x .val ∷ xs);
-        goes = λ xs f y. m .goes _ f (many-more (total - k) (omega arith) (x .reads) (rw i at y));
-        stops = λ z y. m .stops z (many-later (total - k) (omega arith) (x .reads) (rw i at y));
+        goes = λ xs f y. m .goes _ f (many-more (total - k) (omega arith) (line-from n (x .reads)) (rw i at y));
+        stops = λ z y. m .stops z (many-later (total - k) (omega arith) (line-from n (x .reads)) (rw i at y));
         holds = λ u lu xs j b f y.
             m .holds u lu (x .val ∷ xs) j
             (agree-trans (agree-part (x .kept) (omega arith) (omega arith)) (agree-part b (omega arith) (omega arith)))
@@ -101,11 +110,11 @@ module _ {n total : ℕ} {s t ls : List ℕ} {c d : Cursor} {k : ℕ} (m : Lines
         fine = x .fine;
       }
 
-  pub lines-stop : {x : ℕ} → k < total → Gives (listR n 64) s (at d) (refused x) → Gives (many total (listR n 64)) s (at c) (refused x)
-  lines-stop {x} h g = m .stops x (many-stop (total - k) (omega arith) g)
+  pub lines-stop : {x : ℕ} → k < total → Gives (listR n mostDepth) s (at d) (refused x) → Gives (many total (lineBlock n)) s (at c) (refused x)
+  lines-stop {x} h g = m .stops x (many-stop (total - k) (omega arith) (line-from n g))
 
   pub lines-done : total ≤ k → k ≤ total → Lined n total s t ls c d
-  unfolding ofLines none
+  unfolding ofLines none widths
   lines-done h l =
       record {
         val = m .pre [];
@@ -119,10 +128,10 @@ module _ {n total : ℕ} {s t ls : List ℕ} {c d : Cursor} {k : ℕ} (m : Lines
 pub lined : {n total : ℕ} {s t ls : List ℕ} {c d : Cursor} {v : ℕ} {st : Step} → LinesRead n total s t ls c st → st ≡ Next v d → Lined n total s t ls c d
 lined h e = rw e at (h .here)
 
-pub not-lined : {n total : ℕ} {s t ls : List ℕ} {c : Cursor} {x : ℕ} {st : Step} → LinesRead n total s t ls c st → st ≡ Refused x → Gives (many total (listR n 64)) s (at c) (refused x)
+pub not-lined : {n total : ℕ} {s t ls : List ℕ} {c : Cursor} {x : ℕ} {st : Step} → LinesRead n total s t ls c st → st ≡ Refused x → Gives (many total (lineBlock n)) s (at c) (refused x)
 not-lined h e = rw e at (h .here)
 
--- THE FILE
+-- ---- the file
 
 pub is-one : {a n : ℕ} {s : List ℕ} {c : At} → a ≡ 1 → Gives (demand (eqb a 1) n) s c (ok (n, c))
 unfolding demand pure
@@ -137,17 +146,17 @@ unfolding namesAt
 names-length s zero p = refl
 names-length s (suc n) p = ap suc (names-length s n _)
 
-pub parse-long : (s : List ℕ) → 32768 < length s → parse s ≡ refused 10
+pub parse-long : (s : List ℕ) → mostBytes < length s → parse s ≡ refused tooLong
 unfolding parse
-parse-long s h = rw (lt-leb (length s) 32768 h, parse)
+parse-long s h = rw (lt-leb (length s) mostBytes h, parse)
 
-pub parse-no : (s : List ℕ) (k : ℕ) → length s ≤ 32768 → Gives file s start (refused k) → parse s ≡ refused k
+pub parse-no : (s : List ℕ) (k : ℕ) → length s ≤ mostBytes → Gives file s start (refused k) → parse s ≡ refused k
 unfolding parse
-parse-no s k h g = rw (le-leb (length s) 32768 h, parse, g .is)
+parse-no s k h g = rw (le-leb (length s) mostBytes h, parse, g .is)
 
-pub parse-ok : (s : List ℕ) (x : Tree) (c : At) → length s ≤ 32768 → Gives file s start (ok (x, c)) → parse s ≡ ok x
+pub parse-ok : (s : List ℕ) (x : Tree) (c : At) → length s ≤ mostBytes → Gives file s start (ok (x, c)) → parse s ≡ ok x
 unfolding parse
-parse-ok s x c h g = rw (le-leb (length s) 32768 h, parse, g .is)
+parse-ok s x c h g = rw (le-leb (length s) mostBytes h, parse, g .is)
 
 some-lines : {l n : ℕ} {s : List ℕ} {c : At} → (l ≡ 0 → ⊥) → Gives (demand (ltb 0 l) n) s c (ok (n, c))
 unfolding demand pure
@@ -161,7 +170,7 @@ pub head-1 : {s : List ℕ} {x : ℕ} → Gives (bits 8) s start (refused x) →
 unfolding file
 head-1 g = stop _ g
 
-pub head-2 : {s : List ℕ} {f : ℕ} {c1 : At} → Gives (bits 8) s start (ok (f, c1)) → (f ≡ 1 → ⊥) → Gives file s start (refused 1)
+pub head-2 : {s : List ℕ} {f : ℕ} {c1 : At} → Gives (bits 8) s start (ok (f, c1)) → (f ≡ 1 → ⊥) → Gives file s start (refused otherForm)
 unfolding file
 head-2 g h = then _ g (stop _ (not-one h))
 
@@ -169,7 +178,7 @@ pub head-3 : {s : List ℕ} {f : ℕ} {c1 : At} {x : ℕ} → Gives (bits 8) s s
 unfolding file
 head-3 g h a = then _ g (then _ (is-one h) (stop _ a))
 
-pub head-4 : {s : List ℕ} {f l : ℕ} {c1 c2 : At} → Gives (bits 8) s start (ok (f, c1)) → f ≡ 1 → Gives (bits 8) s c1 (ok (l, c2)) → l ≡ 0 → Gives file s start (refused 2)
+pub head-4 : {s : List ℕ} {f l : ℕ} {c1 c2 : At} → Gives (bits 8) s start (ok (f, c1)) → f ≡ 1 → Gives (bits 8) s c1 (ok (l, c2)) → l ≡ 0 → Gives file s start (refused zeroLines)
 unfolding file
 head-4 g h a b = then _ g (then _ (is-one h) (then _ a (stop _ (no-lines b))))
 
@@ -177,17 +186,17 @@ pub head-5 : {s : List ℕ} {f l : ℕ} {c1 c2 : At} {x : ℕ} → Gives (bits 8
 unfolding file
 head-5 g h a b e = then _ g (then _ (is-one h) (then _ a (then _ (some-lines b) (stop _ e))))
 
-pub head-6 : {s : List ℕ} {f l n : ℕ} {c1 c2 c3 : At} {res : Res (Tree × At)} → Gives (bits 8) s start (ok (f, c1)) → f ≡ 1 → Gives (bits 8) s c1 (ok (l, c2)) → (l ≡ 0 → ⊥) → Gives (bits 8) s c2 (ok (n, c3)) → Gives (fileTail l n) s c3 res → Gives file s start res
-unfolding file fileTail listR
+pub head-6 : {s : List ℕ} {f l n : ℕ} {c1 c2 c3 : At} {res : Res (Tree × At)} → Gives (bits 8) s start (ok (f, c1)) → f ≡ 1 → Gives (bits 8) s c1 (ok (l, c2)) → (l ≡ 0 → ⊥) → Gives (bits 8) s c2 (ok (n, c3)) → Gives (body l n) s c3 res → Gives file s start res
+unfolding file
 head-6 g h a b e r = then _ g (then _ (is-one h) (then _ a (then _ (some-lines b) (then _ e r))))
 
 held-at : {t ls s : List ℕ} {m k i i' k' j j' : ℕ} {xs : List Block} → i ≡ i' → j ≡ j' → HoldsL t ls s m k i xs k' j → HoldsL t ls s m k i' xs k' j'
 held-at p q h = rw (← p, ← q) h
 
-pub filed : {s t ls : List ℕ} {n l w : ℕ} {c3 c4 c5 c6 : Cursor} → c3 .nodes ≡ 0 → c3 .statements ≡ 0 → c3 .strings ≡ 0 → c3 .chars ≡ 0 → l < 256 → NamedAll n s c3 c4 → Lined n l s t ls c4 c5 → Took fill s c5 0 0 10 w c6
-    → ((res : Res (Tree × At)) → Gives (fileTail l n) s (at c3) res → Gives file s start res) → Filed s t ls (l + 256 * n) c6
-unfolding fileTail
-filed {s = s} {n = n} {l = l} {c3 = c3} {c4 = c4} {c5 = c5} {c6 = c6} a b d e f x y z g =
+pub filed : {s t ls : List ℕ} {n l w : ℕ} {c3 c4 c5 c6 : Cursor} → c3 .nodes ≡ 0 → c3 .statements ≡ 0 → c3 .sections ≡ 0 → c3 .strings ≡ 0 → c3 .chars ≡ 0 → l < 256 → NamedAll n s c3 c4 → Lined n l s t ls c4 c5 → Took fill s c5 0 0 10 w c6
+    → ((res : Res (Tree × At)) → Gives (body l n) s (at c3) res → Gives file s start res) → Filed s t ls (l + 256 * n) c6
+unfolding body
+filed {s = s} {n = n} {l = l} {c3 = c3} {c4 = c4} {c5 = c5} {c6 = c6} a b h d e f x y z g =
     let p = x .moved in
     let q = y .counts in
     let r = z .moved in
@@ -201,13 +210,14 @@ filed {s = s} {n = n} {l = l} {c3 = c3} {c4 = c4} {c5 = c5} {c6 = c6} a b d e f 
       holds = rw (u, v) (held-at i j (y .holds));
       nodes = omega arith;
       statements = omega arith;
+      sections = omega arith;
       strings = omega arith;
       chars = omega arith;
       few = omega arith;
       both = rw (u, v);
     }
 
-pub treed : {s t ls : List ℕ} {v : ℕ} {c : Cursor} → Filed s t ls v c → length s ≤ 32768 → Treed s t ls (record { lines = v % 256; names = v / 256; statements = c .statements; nodes = c .nodes; strings = c .strings; characters = c .chars })
+pub treed : {s t ls : List ℕ} {v : ℕ} {c : Cursor} → Filed s t ls v c → length s ≤ mostBytes → Treed s t ls (record { lines = v % 256; names = v / 256; statements = c .statements; nodes = c .nodes; strings = c .strings; characters = c .chars })
 unfolding sizeOf
 treed {s = s} {v = v} {c = c} f h =
     let k = f .both in
@@ -227,7 +237,7 @@ unfolding size
 size-from {s = s} {r = Sized z} h = rw (h .here .parses, size) (ap ok (h .here .size-is))
 size-from {s = s} {r = No k} h = rw (h .here, size)
 
--- ONE TREE: lines that the tables hold from one line and node to the same line are the same
+-- ---- at most one: lines that the tables hold from one line and node to the same line are the same
 lines-le : {t ls s : List ℕ} {m k i k' j : ℕ} {xs : List Block} → HoldsL t ls s m k i xs k' j → k ≤ k'
 lines-le (no-line p q) = omega arith
 lines-le (a-line n f w b p l) = let h = lines-le l in omega arith
@@ -242,7 +252,7 @@ lines-at p q l = rw (p, q) l
 cons-same : (x x' : Block) (y y' : List Block) → x ≡ x' → y ≡ y' → (x ∷ y) ≡ (x' ∷ y')
 cons-same x x' y y' p q = rw (p, q)
 
-pub one-lines : {t ls s : List ℕ} {m k i k' j j' : ℕ} {xs ys : List Block} → length s ≤ 32768 → m ≤ 256 → HoldsL t ls s m k i xs k' j → HoldsL t ls s m k i ys k' j' → Same xs ys j j'
+pub one-lines : {t ls s : List ℕ} {m k i k' j j' : ℕ} {xs ys : List Block} → length s ≤ mostBytes → m ≤ 256 → HoldsL t ls s m k i xs k' j → HoldsL t ls s m k i ys k' j' → Same xs ys j j'
 one-lines a c (no-line p q) (no-line p' q') = record { tree = refl; last = sym q ∙ q' }
 one-lines a c (no-line p q) (a-line n f w b z l) = absurd (let h = lines-le l in omega arith)
 one-lines a c (a-line n f w b z l) (no-line p q) = absurd (let h = lines-le l in omega arith)

@@ -1,5 +1,5 @@
 use Rattle.tree.proofs.Laws.{fill-long, fill-bits, fill-ok}
-use Rattle.tree.specs.Whole.{LinesMid}
+use Rattle.tree.specs.Files.{LinesMid}
 use Rattle.bits.proofs.Gives.{then, stop, done, took, failed}
 use Rattle.rules.specs.Bits.{spelled}
 use lib.ListN.{length}
@@ -13,26 +13,21 @@ use Rattle.tree.proofs.fill.Reads as reads
 use Rattle.tree.proofs.fill.Lts as lts
 use Rattle.bits.proofs.peek.Reads as peek-reads
 
--- src/lib.rt:32:16
 mul-bits : tie.Need-mul-bits
 mul-bits c = search needs
 
--- src/lib.rt:34:16
 sub-rest : tie.Need-sub-rest
 sub-rest c = search needs
 
--- src/lib.rt:36:9
 returns : tie.Need-returns
 returns c =
     let a = c .before .before .args in
     let h : 8 ≤ 8 * length (a .s .now) - a .c .pos = omega arith in
     record { here = fill-long _ _ h }
 
--- src/lib.rt:38:8
 peek-requires : tie.Need-peek-requires
 peek-requires c κs = search needs
 
--- src/lib.rt:39:9
 returns-2 : tie.Need-returns-2
 returns-2 c =
     let a = c .before .before .before .before .args in
@@ -41,7 +36,6 @@ returns-2 c =
     let f = rw e at (c .before .peek .ensures) in
     record { here = fill-bits _ _ h (λ z. c .if2 .taken (f ∙ z)) }
 
--- src/lib.rt:28:1
 returns-3 : tie.Need-returns-3
 returns-3 c =
     let a = c .before .before .before .before .args in

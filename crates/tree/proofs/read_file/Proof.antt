@@ -1,7 +1,7 @@
 use Rattle.tree.proofs.Laws.{lined, not-lined, head-1, head-2, head-3, head-4, head-5, head-6, filed}
-use Rattle.tree.specs.Whole.{fileTail}
+use Rattle.rules.specs.Parse.{body}
 use Rattle.names.proofs.Laws.{named-ok, named-no}
-use Rattle.tree.specs.Whole.{LinesMid}
+use Rattle.tree.specs.Files.{LinesMid}
 use Rattle.bits.proofs.Gives.{then, stop, done, took, failed}
 use Rattle.rules.specs.Bits.{spelled}
 use lib.ListN.{length}
@@ -18,46 +18,37 @@ use Rattle.names.proofs.read_names.Reads as read-names-reads
 use Rattle.tree.proofs.fill.Reads as fill-reads
 use Rattle.tree.proofs.read_lines.Reads as read-lines-reads
 
--- src/lib.rt:70:9
 take-requires : tie.Need-take-requires
 take-requires c κs = search needs
 
--- src/lib.rt:71:20
 enum-known-r : tie.Need-enum-known-r
 enum-known-r c = search needs
 
--- src/lib.rt:72:9
 enum-told : tie.Need-enum-told
 enum-told c = search needs
 
--- src/lib.rt:72:9
 returns : tie.Need-returns
 returns c =
     let e = c .enum-told .given .1 in
     let g = head-1 (failed (c .before .before .take .ensures) e) in
     rw e (record { here = g })
 
--- src/lib.rt:75:9
 returns-2 : tie.Need-returns-2
 returns-2 c =
     let a = took (c .before .before .before .before .take .ensures) (c .before .before .r .given .1) in
     record { here = head-2 (a .reads) (c .if1 .taken) }
 
--- src/lib.rt:77:9
 take-requires-2 : tie.Need-take-requires-2
 take-requires-2 c κs =
     let a = took (c .before .before .before .before .take .ensures) (c .before .before .r .given .1) in
     (a .fine, omega arith)
 
--- src/lib.rt:78:20
 enum-known-r1 : tie.Need-enum-known-r1
 enum-known-r1 c = search needs
 
--- src/lib.rt:79:9
 enum-told-2 : tie.Need-enum-told-2
 enum-told-2 c = search needs
 
--- src/lib.rt:79:9
 returns-3 : tie.Need-returns-3
 returns-3 c =
     let e = c .enum-told2 .given .1 in
@@ -65,28 +56,23 @@ returns-3 c =
     let g = head-3 (a .reads) (c .before .before .before .if1 .left) (failed (c .before .before .take2 .ensures) e) in
     rw e (record { here = g })
 
--- src/lib.rt:82:9
 returns-4 : tie.Need-returns-4
 returns-4 c =
     let a = took (c .before .before .before .before .before .before .before .before .before .take .ensures) (c .before .before .before .before .before .before .before .r .given .1) in
     let b = took (c .before .before .before .before .take2 .ensures) (c .before .before .r1 .given .1) in
     record { here = head-4 (a .reads) (c .before .before .before .before .before .if1 .left) (b .reads) (c .if2 .taken) }
 
--- src/lib.rt:84:9
 take-requires-3 : tie.Need-take-requires-3
 take-requires-3 c κs =
     let b = took (c .before .before .before .before .take2 .ensures) (c .before .before .r1 .given .1) in
     (b .fine, omega arith)
 
--- src/lib.rt:85:20
 enum-known-r2 : tie.Need-enum-known-r2
 enum-known-r2 c = search needs
 
--- src/lib.rt:86:9
 enum-told-3 : tie.Need-enum-told-3
 enum-told-3 c = search needs
 
--- src/lib.rt:86:9
 returns-5 : tie.Need-returns-5
 returns-5 c =
     let e = c .enum-told3 .given .1 in
@@ -95,22 +81,18 @@ returns-5 c =
     let g = head-5 (a .reads) (c .before .before .before .before .before .before .before .before .if1 .left) (b .reads) (c .before .before .before .if2 .left) (failed (c .before .before .take3 .ensures) e) in
     rw e (record { here = g })
 
--- src/lib.rt:88:9
 read-names-requires : tie.Need-read-names-requires
 read-names-requires c κs =
     took (c .before .before .before .take3 .ensures) (c .before .r2 .given .1) .fine
 
--- src/lib.rt:89:23
 enum-known-r3 : tie.Need-enum-known-r3
 enum-known-r3 c = search needs
 
--- src/lib.rt:90:9
 enum-told-4 : tie.Need-enum-told-4
 enum-told-4 c = search needs
 
--- src/lib.rt:90:9
 returns-6 : tie.Need-returns-6
-unfolding fileTail
+unfolding body
 returns-6 c =
     let e = c .enum-told4 .given .1 in
     let a = took (c .before .before .before .before .before .before .before .before .before .before .before .before .before .before .before .before .take .ensures) (c .before .before .before .before .before .before .before .before .before .before .before .before .before .before .r .given .1) in
@@ -119,7 +101,6 @@ returns-6 c =
     let g = head-6 (a .reads) (c .before .before .before .before .before .before .before .before .before .before .before .before .if1 .left) (b .reads) (c .before .before .before .before .before .before .before .if2 .left) (d .reads) (stop _ (named-no (c .before .before .read-names .ensures) e)) in
     rw e (record { here = g })
 
--- src/lib.rt:92:9
 read-lines-requires : tie.Need-read-lines-requires
 read-lines-requires c κs =
     let p = c .before .before .before .before .before .before .before .before .before .before .before .before .before .before .before .before .before .before .before .before .before .before .before .pre in
@@ -128,25 +109,20 @@ read-lines-requires c κs =
     let n = named-ok (c .before .before .before .before .before .read-names .ensures) (c .before .before .before .r3 .given .1) .fine in
     (record { fine = n; room = p .1 .0; names = d }, omega arith)
 
--- src/lib.rt:93:23
 enum-known-r4 : tie.Need-enum-known-r4
 enum-known-r4 c = search needs
 
--- src/lib.rt:94:9
 enum-told-5 : tie.Need-enum-told-5
 enum-told-5 c = search needs
 
--- src/lib.rt:94:9
 same-length : tie.Need-same-length
 same-length c = search needs
 
--- src/lib.rt:94:9
 same-length-2 : tie.Need-same-length-2
 same-length-2 c = search needs
 
--- src/lib.rt:94:9
 returns-7 : tie.Need-returns-7
-unfolding fileTail
+unfolding body
 returns-7 c =
     let e = c .enum-told5 .given .1 in
     let a = took (c .before .before .before .before .before .before .before .before .before .before .before .before .before .before .before .before .before .before .before .before .before .before .before .before .before .before .take .ensures) (c .before .before .before .before .before .before .before .before .before .before .before .before .before .before .before .before .before .before .before .before .before .before .before .before .r .given .1) in
@@ -156,30 +132,24 @@ returns-7 c =
     let g = head-6 (a .reads) (c .before .before .before .before .before .before .before .before .before .before .before .before .before .before .before .before .before .before .before .before .before .before .if1 .left) (b .reads) (c .before .before .before .before .before .before .before .before .before .before .before .before .before .before .before .before .before .if2 .left) (d .reads) (then _ (n .reads) (stop _ (not-lined (c .before .before .before .before .before .before .read-lines .ensures) e))) in
     rw e (record { here = g })
 
--- src/lib.rt:96:9
 fill-requires : tie.Need-fill-requires
 fill-requires c κs =
     lined (c .before .before .before .before .before .before .before .read-lines .ensures) (c .before .r4 .given .1) .fine
 
--- src/lib.rt:97:23
 enum-known-r5 : tie.Need-enum-known-r5
 enum-known-r5 c = search needs
 
--- src/lib.rt:98:9
 enum-told-6 : tie.Need-enum-told-6
 enum-told-6 c = search needs
 
--- src/lib.rt:98:9
 same-length-3 : tie.Need-same-length-3
 same-length-3 c = search needs
 
--- src/lib.rt:98:9
 same-length-4 : tie.Need-same-length-4
 same-length-4 c = search needs
 
--- src/lib.rt:98:9
 returns-8 : tie.Need-returns-8
-unfolding fileTail
+unfolding body
 returns-8 c =
     let e = c .enum-told6 .given .1 in
     let a = took (c .before .before .before .before .before .before .before .before .before .before .before .before .before .before .before .before .before .before .before .before .before .before .before .before .before .before .before .before .before .before .take .ensures) (c .before .before .before .before .before .before .before .before .before .before .before .before .before .before .before .before .before .before .before .before .before .before .before .before .before .before .before .before .r .given .1) in
@@ -190,28 +160,23 @@ returns-8 c =
     let g = head-6 (a .reads) (c .before .before .before .before .before .before .before .before .before .before .before .before .before .before .before .before .before .before .before .before .before .before .before .before .before .before .if1 .left) (b .reads) (c .before .before .before .before .before .before .before .before .before .before .before .before .before .before .before .before .before .before .before .before .before .if2 .left) (d .reads) (then _ (n .reads) (then _ (l .reads) (stop _ (failed (c .before .before .fill .ensures) e)))) in
     rw e (record { here = g })
 
--- src/lib.rt:100:24
 mul-t26 : tie.Need-mul-t26
 mul-t26 c =
     let d = took (c .before .before .before .before .before .before .before .before .before .before .before .before .before .before .before .before .before .before .before .before .before .take3 .ensures) (c .before .before .before .before .before .before .before .before .before .before .before .before .before .before .before .before .before .before .before .r2 .given .1) .small in
     omega arith
 
--- src/lib.rt:100:16
 add-t27 : tie.Need-add-t27
 add-t27 c =
     let b = took (c .before .before .before .before .before .before .before .before .before .before .before .before .before .before .before .before .before .before .before .before .before .before .before .before .before .before .take2 .ensures) (c .before .before .before .before .before .before .before .before .before .before .before .before .before .before .before .before .before .before .before .before .before .before .before .before .r1 .given .1) .small in
     let d = took (c .before .before .before .before .before .before .before .before .before .before .before .before .before .before .before .before .before .before .before .before .before .take3 .ensures) (c .before .before .before .before .before .before .before .before .before .before .before .before .before .before .before .before .before .before .before .r2 .given .1) .small in
     omega arith
 
--- src/lib.rt:65:1
 same-length-5 : tie.Need-same-length-5
 same-length-5 c = search needs
 
--- src/lib.rt:65:1
 same-length-6 : tie.Need-same-length-6
 same-length-6 c = search needs
 
--- src/lib.rt:65:1
 returns-9 : tie.Need-returns-9
 returns-9 c =
     let a = took (c .before .before .before .before .before .before .before .before .before .before .before .before .before .before .before .before .before .before .before .before .before .before .before .before .before .before .before .before .before .before .before .take .ensures) (c .before .before .before .before .before .before .before .before .before .before .before .before .before .before .before .before .before .before .before .before .before .before .before .before .before .before .before .before .before .r .given .1) in
@@ -223,7 +188,7 @@ returns-9 c =
     let x = a .moved in
     let y = b .moved in
     let z = d .moved in
-    record { here = filed (omega arith) (omega arith) (omega arith) (omega arith) (b .small) n l f (λ res g. head-6 (a .reads) (c .before .before .before .before .before .before .before .before .before .before .before .before .before .before .before .before .before .before .before .before .before .before .before .before .before .before .before .if1 .left) (b .reads) (c .before .before .before .before .before .before .before .before .before .before .before .before .before .before .before .before .before .before .before .before .before .before .if2 .left) (d .reads) g) }
+    record { here = filed (omega arith) (omega arith) (omega arith) (omega arith) (omega arith) (b .small) n l f (λ res g. head-6 (a .reads) (c .before .before .before .before .before .before .before .before .before .before .before .before .before .before .before .before .before .before .before .before .before .before .before .before .before .before .before .if1 .left) (b .reads) (c .before .before .before .before .before .before .before .before .before .before .before .before .before .before .before .before .before .before .before .before .before .before .if2 .left) (d .reads) g) }
 
 pub read-file-spec : {M : Type 1} → statement M
 read-file-spec =

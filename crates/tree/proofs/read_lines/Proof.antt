@@ -1,7 +1,7 @@
 use lib.ListN.{length-set}
 use Rattle.tree.proofs.Laws.{lines-start, lines-more, lines-stop, lines-done}
 use Rattle.nodes.proofs.Built.{built, unbuilt}
-use Rattle.tree.specs.Whole.{LinesMid}
+use Rattle.tree.specs.Files.{LinesMid}
 use Rattle.bits.proofs.Gives.{then, stop, done, took, failed}
 use Rattle.rules.specs.Bits.{spelled}
 use lib.ListN.{length}
@@ -21,71 +21,57 @@ Inv-loop s t₀ ls₀ names lines d₀ k₀ t ls d k = (length t ≡ length t₀
 abbrev μ-loop : tie.MeasureT-loop
 μ-loop s t₀ ls₀ names lines d₀ k₀ t ls d k = lines - k
 
--- src/lib.rt:51:5
 loop-holds : tie.Need-loop-holds Inv-loop μ-loop
 loop-holds c =
     (refl, (refl, (omega arith, lines-start _ _ _ _ _ _ (c .before .before .before .pre .0 .fine))))
 
--- src/lib.rt:52:13
 read-list-requires : tie.Need-read-list-requires Inv-loop μ-loop
 read-list-requires c κs =
     let p = c .before .before .before .before .before .before .pre .0 in
     let m = c .before .before .loop .inv in
     record { fine = m .1 .1 .1 .fine; room = omega arith; names = p .names }
 
--- src/lib.rt:53:24
 enum-known-r : tie.Need-enum-known-r Inv-loop μ-loop
 enum-known-r c = search needs
 
--- src/lib.rt:54:13
 enum-told : tie.Need-enum-told Inv-loop μ-loop
 enum-told c = search needs
 
--- src/lib.rt:54:13
 same-length : tie.Need-same-length Inv-loop μ-loop
 same-length c = search needs
 
--- src/lib.rt:54:13
 same-length-2 : tie.Need-same-length-2 Inv-loop μ-loop
 same-length-2 c = search needs
 
--- src/lib.rt:54:13
 returns : tie.Need-returns Inv-loop μ-loop
 returns c =
     let e = c .enum-told .given .1 in
     let g = lines-stop (c .before .before .before .before .before .before .before .loop .inv .1 .1 .1) (c .before .before .before .before .before .before .loop-test .taken) (unbuilt (c .before .before .before .before .read-list .ensures) e) in
     rw e (record { here = g })
 
--- src/lib.rt:56:25
 mul-w : tie.Need-mul-w Inv-loop μ-loop
 mul-w c =
     let f = c .before .before .before .before .before .before .before .before .loop .inv .1 .1 .1 .fine in
     omega arith
 
--- src/lib.rt:56:17
 add-w : tie.Need-add-w Inv-loop μ-loop
 add-w c =
     let f = c .before .before .before .before .before .before .before .before .loop .inv .1 .1 .1 .fine in
     let v = built (c .before .before .before .before .before .read-list .ensures) (c .before .r .given .1) .holds .few in
     omega arith
 
--- src/lib.rt:57:9
 mul-ls : tie.Need-mul-ls Inv-loop μ-loop
 mul-ls c = search needs
 
--- src/lib.rt:57:9
 slice-write-ls : tie.Need-slice-write-ls Inv-loop μ-loop
 slice-write-ls c = search needs
 
--- src/lib.rt:59:9
 add-k : tie.Need-add-k Inv-loop μ-loop
 add-k c = search needs
 
--- src/lib.rt:51:5
 loop-less : tie.Need-loop-less Inv-loop μ-loop
 loop-less c = search needs
 
--- src/lib.rt:51:5
 loop-again : tie.Need-loop-again Inv-loop μ-loop
 loop-again c =
     let m = c .before .before .before .before .before .before .before .before .loop .inv in
@@ -94,15 +80,12 @@ loop-again c =
     let k = c .before .before .before .before .before .read-list .kept in
     (omega arith, (simp length-set (m .1 .0), (omega arith, lines-more (m .1 .1 .1) _ h (omega arith) refl x)))
 
--- src/lib.rt:45:1
 same-length-3 : tie.Need-same-length-3 Inv-loop μ-loop
 same-length-3 c = search needs
 
--- src/lib.rt:45:1
 same-length-4 : tie.Need-same-length-4 Inv-loop μ-loop
 same-length-4 c = search needs
 
--- src/lib.rt:45:1
 returns-2 : tie.Need-returns-2 Inv-loop μ-loop
 returns-2 c =
     let m = c .before .loop .inv .1 .1 in

@@ -1,5 +1,5 @@
 use Rattle.tree.proofs.Laws.{size-from}
-use Rattle.tree.specs.Whole.{LinesMid}
+use Rattle.tree.specs.Files.{LinesMid}
 use Rattle.bits.proofs.Gives.{then, stop, done, took, failed}
 use Rattle.rules.specs.Bits.{spelled}
 use lib.ListN.{length}
@@ -13,19 +13,15 @@ use Rattle.tree.proofs.size.Reads as reads
 use Rattle.tree.proofs.size.Lts as lts
 use Rattle.tree.proofs.read_tree.Reads as read-tree-reads
 
--- src/lib.rt:131:22
 slice-aggregate-read-tree : tie.Need-slice-aggregate-read-tree
 slice-aggregate-read-tree c = search needs
 
--- src/lib.rt:131:30
 slice-aggregate-read-tree-2 : tie.Need-slice-aggregate-read-tree-2
 slice-aggregate-read-tree-2 c = search needs
 
--- src/lib.rt:131:5
 read-tree-requires : tie.Need-read-tree-requires
 read-tree-requires c κs = search needs
 
--- src/lib.rt:126:1
 returns : tie.Need-returns
 returns c =
     size-from (c .before .before .read-tree .ensures)
