@@ -6,10 +6,10 @@ pub mod limits;
 pub mod refusal;
 
 ghost use mathlib.Core.Path.{_≡_};
-ghost use Prim.Native.Nat.{_≤_, _<_, _+_, _*_, _^_};
+ghost use Prim.Native.Nat.{_≤_, _<_, _+_, _*_, _%_, _^_};
 ghost use lib.ListN.{length};
 ghost use Rattle.rules.specs.Constants.{mostBytes, byteBits, numberBits};
-ghost use Rattle.rules.specs.Bits.{bit as bitS, field, spelled};
+ghost use Rattle.rules.specs.Bits.{field, spelled};
 ghost use Rattle.rules.specs.Parse.{bits};
 ghost use Rattle.bits.specs.Reads.{fieldRes, Fine, Takes, Skips, belowR, beginR};
 use limits::BYTE_BITS;
@@ -47,15 +47,28 @@ fn wide(x: u8) -> u64
     x as u64
 }
 
-// Bit p of the file.
-fn bit(s: &[u8], p: usize) -> u64
-    requires { ⌜ p < length (now s) * byteBits ⌝ }
-    ensures { λ r. ⌜ r ≡ bitS (now (s .entry)) p ⌝ }
+// How many of the w bits at p lie in the byte where p stands.
+fn chunk(p: usize, w: usize) -> usize
+    requires { ⌜ 0 < w ⌝ }
+    ensures { λ r. ⌜ (0 < r) × (r ≤ w) × (p % byteBits + r ≤ byteBits) ⌝ }
 {
-    (wide(s[p / BYTE_BITS]) >> (7 - p % BYTE_BITS)) % 2
+    let room = BYTE_BITS - p % BYTE_BITS;
+    if w < room {
+        return w;
+    }
+    room
 }
 
-// The number that the w bits at a position spell, where they are.
+// The number that n bits within one byte spell.
+fn part(s: &[u8], p: usize, n: usize) -> u64
+    requires { ⌜ (0 < n) × (p % byteBits + n ≤ byteBits) × (p + n ≤ byteBits * length (now s)) ⌝ }
+    ensures { λ r. ⌜ r ≡ spelled (now (s .entry)) n p ⌝ }
+{
+    let low = BYTE_BITS - p % BYTE_BITS - n;
+    (wide(s[p / BYTE_BITS]) >> low) & ((1 << n) - 1)
+}
+
+// The number that the w bits at a position spell, where they are: byte by byte.
 pub fn peek(s: &[u8], at: usize, w: usize) -> u64
     requires { ⌜ (length (now s) ≤ mostBytes) × ((w ≤ numberBits) × (at + w ≤ byteBits * length (now s))) ⌝ }
     ensures { λ r. ⌜ r ≡ spelled (now (s .entry)) w at ⌝ }
@@ -63,8 +76,9 @@ pub fn peek(s: &[u8], at: usize, w: usize) -> u64
     let mut v: u64 = 0;
     let mut k: usize = 0;
     while k < w {
-        v = v * 2 + bit(s, at + k);
-        k += 1;
+        let n = chunk(at + k, w - k);
+        v = (v << n) + part(s, at + k, n);
+        k += n;
     }
     v
 }

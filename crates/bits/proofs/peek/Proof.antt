@@ -1,13 +1,14 @@
-use Rattle.bits.proofs.Bits.{spelled-more, more-fits}
-use Rattle.rules.specs.Bits.{bit, spelled}
+use Rattle.bits.proofs.Bytes.{shifted, fits}
+use Rattle.rules.specs.Bits.{spelled}
 use native.Mathlib.Omega.{arith}
-use mathlib.Core.Path.{_≡_, refl}
+use mathlib.Core.Path.{_≡_, refl, _∙_}
 use Prim.Native.Nat.{_≤_, _<_, _-_, _*_, _+_, _^_}
 use Rattle.bits.proofs.peek.Statement.{statement}
 use Rattle.bits.proofs.peek.Tie as tie
 use Rattle.bits.proofs.peek.Reads as reads
 use Rattle.bits.proofs.peek.Lts as lts
-use Rattle.bits.proofs.bit.Reads as bit-reads
+use Rattle.bits.proofs.chunk.Reads as chunk-reads
+use Rattle.bits.proofs.part.Reads as part-reads
 
 abbrev Inv-loop : tie.InvT-loop
 Inv-loop s at w v₀ k₀ v k = (k ≤ w) × (v ≡ spelled s k at)
@@ -15,46 +16,61 @@ Inv-loop s at w v₀ k₀ v k = (k ≤ w) × (v ≡ spelled s k at)
 abbrev μ-loop : tie.MeasureT-loop
 μ-loop s at w v₀ k₀ v k = w - k
 
--- src/lib.rt:51:5
 loop-holds : tie.Need-loop-holds Inv-loop μ-loop
 unfolding spelled
 loop-holds c =
     (omega arith, refl)
 
--- src/lib.rt:52:13
-mul-v : tie.Need-mul-v Inv-loop μ-loop
-mul-v c =
-    let h : c .before .loop .k < 64 = omega arith in
-    omega (arith, more-fits (c .before .before .before .args .s .now) (c .before .before .before .args .at) _ h)
+add-chunk : tie.Need-add-chunk Inv-loop μ-loop
+add-chunk c =
+    omega arith
 
--- src/lib.rt:52:28
-add-bit : tie.Need-add-bit Inv-loop μ-loop
-add-bit c = omega arith
+sub-chunk : tie.Need-sub-chunk Inv-loop μ-loop
+sub-chunk c =
+    omega arith
 
--- src/lib.rt:52:21
-bit-requires : tie.Need-bit-requires Inv-loop μ-loop
-bit-requires c κs = omega arith
+chunk-requires : tie.Need-chunk-requires Inv-loop μ-loop
+chunk-requires c κs =
+    omega arith
 
--- src/lib.rt:52:13
+shl-v : tie.Need-shl-v Inv-loop μ-loop
+shl-v c =
+    omega arith
+
+add-part : tie.Need-add-part Inv-loop μ-loop
+add-part c =
+    omega arith
+
+part-requires : tie.Need-part-requires Inv-loop μ-loop
+part-requires c κs =
+    omega arith
+
 add-v : tie.Need-add-v Inv-loop μ-loop
 add-v c =
-    let h : c .before .before .loop .k < 64 = omega arith in
-    omega (arith, c .bit .ensures, more-fits (c .before .before .before .before .args .s .now) (c .before .before .before .before .args .at) _ h)
+    let a = c .before .before .before .before .before .args in
+    let k = c .before .before .before .loop .k in
+    let n = c .before .chunk .result in
+    let h : k + n ≤ 64 = omega arith in
+    let e = shifted (a .s .now) k n (a .at) h (c .before .before .before .loop .inv .1) (c .part .ensures) in
+    omega (arith, fits (a .s .now) (k + n) (a .at) h)
 
--- src/lib.rt:53:9
 add-k : tie.Need-add-k Inv-loop μ-loop
-add-k c = omega arith
+add-k c =
+    omega arith
 
--- src/lib.rt:51:5
 loop-less : tie.Need-loop-less Inv-loop μ-loop
-loop-less c = omega arith
+loop-less c =
+    omega arith
 
--- src/lib.rt:51:5
 loop-again : tie.Need-loop-again Inv-loop μ-loop
 loop-again c =
-    (omega arith, rw spelled-more (omega (arith, c .bit .ensures)))
+    let a = c .before .before .before .before .before .args in
+    let k = c .before .before .before .loop .k in
+    let n = c .before .chunk .result in
+    let h : k + n ≤ 64 = omega arith in
+    let e = shifted (a .s .now) k n (a .at) h (c .before .before .before .loop .inv .1) (c .part .ensures) in
+    (omega arith, e)
 
--- src/lib.rt:45:1
 returns : tie.Need-returns Inv-loop μ-loop
 returns c =
     let e : c .before .loop .k ≡ c .before .before .before .args .w = omega arith in
@@ -67,9 +83,12 @@ peek-spec =
     Inv-loop
     μ-loop
     loop-holds
-    mul-v
-    add-bit
-    bit-requires
+    add-chunk
+    sub-chunk
+    chunk-requires
+    shl-v
+    add-part
+    part-requires
     add-v
     add-k
     loop-less
