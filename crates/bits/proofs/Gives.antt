@@ -1,4 +1,4 @@
--- The laws of `Gives`: one step after another.
+-- The laws of `Gives`: one step after another, refused or not. Assumes nothing.
 use mathlib.Core.Path.{_≡_, refl, sym, _∙_, ap}
 use mathlib.Core.List.{List, [], _∷_}
 use mathlib.Core.Bool.{Bool, true, false}
@@ -9,6 +9,8 @@ use borrow.Author.Tests.{lt-ltb, le-ltb, leb-true, leb-false, ltb-true, ltb-fals
 use lib.Dec.{ltb, leb}
 use lib.ListN.{length, getElem?}
 use mathlib.Core.Option.{Option, none, some}
+use Rattle.rules.specs.Constants.{mostNodes, byteBits, charBits, nameBits}
+use Rattle.rules.specs.Refusal.{endsInField, tooDeep, tooManyNodes, unassigned, unknownName}
 use Rattle.rules.specs.Bits.{Res, refused, ok, field, spelled}
 use Rattle.rules.specs.Parse.{Reader, At, pure, refuse, demand, begin, bits, many, operator, nameOf, _>>=_}
 use Rattle.bits.specs.Reads.{Gives, Fine, Moved, Took, Takes, Skips, Skipped, at, belowR, beginR, fieldRes, charsAt}
@@ -33,6 +35,22 @@ pub stop : {A B : Type 0} {m : Reader A} (k : A → Reader B) {s : List ℕ} {c 
 unfolding _>>=_
 stop k d = record { is = rw (d .is, _>>=_) }
 
+-- ---- a reader gives one result
+
+pub unique : {A : Type 0} {m : Reader A} {s : List ℕ} {c : At} {x y : Res (A × At)} → Gives m s c x → Gives m s c y → x ≡ y
+unique d e = sym (d .is) ∙ e .is
+
+pub inject : {A : Type 0} {x y : A} → ok x ≡ ok y → x ≡ y
+inject {A} {x} {y} e = cc
+
+pub inject-refused : {A : Type 0} {m n : ℕ} → _≡_ {A = Res A} (refused m) (refused n) → m ≡ n
+inject-refused {A} {m} {n} e = cc
+
+pub never : {A : Type 0} {x : A} {n : ℕ} → ok x ≡ refused n → ⊥
+never {A} {x} {n} e = let z : _≡_ {A = ℕ} 0 1 = cc in omega arith
+
+-- ---- steps
+
 -- a test that passes, and one that does not
 pub passes : {a b n : ℕ} {s : List ℕ} {c : At} → a < b → Gives (demand (ltb a b) n) s c (ok (n, c))
 unfolding demand pure
@@ -47,7 +65,7 @@ pub bits-in : (s : List ℕ) (w : ℕ) (c : At) (v p : ℕ) → ok (v, p) ≡ fi
 unfolding bits
 bits-in s w c v p e = record { is = rw (← e, bits) }
 
-pub bits-out : (s : List ℕ) (w : ℕ) (c : At) → refused 3 ≡ field s w (c .pos) → Gives (bits w) s c (refused 3)
+pub bits-out : (s : List ℕ) (w : ℕ) (c : At) → refused endsInField ≡ field s w (c .pos) → Gives (bits w) s c (refused endsInField)
 unfolding bits
 bits-out s w c e = record { is = rw (← e, bits) }
 
@@ -58,56 +76,62 @@ taken s w c v p r f t e =
     let i = inside s w (c .pos) v p k in
     record { reads = bits-in s w (at c) v p k; small = i .small; moved = omega arith; fine = omega arith }
 
-pub short : (s : List ℕ) (w : ℕ) (c : At) (r : Field) → r ≡ Short → fieldRes r ≡ field s w (c .pos) → Gives (bits w) s c (refused 3)
-short s w c r t e = let k : refused 3 ≡ field s w (c .pos) = rw t at e in bits-out s w c k
+pub short : (s : List ℕ) (w : ℕ) (c : At) (r : Field) → r ≡ Short → fieldRes r ≡ field s w (c .pos) → Gives (bits w) s c (refused endsInField)
+short s w c r t e = let k : refused endsInField ≡ field s w (c .pos) = rw t at e in bits-out s w c k
 
 -- a node that begins, and one too many
-pub begins : (s : List ℕ) (c : At) → c .nodes < 2048 → Gives begin s c (ok (0, record { pos = c .pos; nodes = suc (c .nodes) }))
+pub begins : (s : List ℕ) (c : At) → c .nodes < mostNodes → Gives begin s c (ok (0, record { pos = c .pos; nodes = suc (c .nodes) }))
 unfolding begin
-begins s c h = record { is = rw (lt-ltb (c .nodes) 2048 h, begin) }
+begins s c h = record { is = rw (lt-ltb (c .nodes) mostNodes h, begin) }
 
-pub too-many : (s : List ℕ) (c : At) → 2048 ≤ c .nodes → Gives begin s c (refused 8)
+pub too-many : (s : List ℕ) (c : At) → mostNodes ≤ c .nodes → Gives begin s c (refused tooManyNodes)
 unfolding begin
-too-many s c h = record { is = rw (le-ltb (c .nodes) 2048 h, begin) }
+too-many s c h = record { is = rw (le-ltb (c .nodes) mostNodes h, begin) }
 
-pub begun : (s : List ℕ) (w more : ℕ) (c d : Cursor) → c .nodes < 2048 → d .pos ≡ c .pos → Moved 1 more c d → (r : Step) → Takes (bits w) s d 0 0 (2 ^ w) r → Takes (beginR w) s c 1 more (2 ^ w) r
+pub begin-deep : (w d : ℕ) {s : List ℕ} {c : At} → d ≡ 0 → Gives (beginR w d) s c (refused tooDeep)
+unfolding beginR refuse
+begin-deep w d e = rw e (record { is = refl })
+
+pub begin-many : (w d : ℕ) {s : List ℕ} {c : At} → (d ≡ 0 → ⊥) → mostNodes ≤ c .nodes → Gives (beginR w d) s c (refused tooManyNodes)
 unfolding beginR
-begun s w more c d h p m (Next v e) u = let t = u .here in record { here = record { reads = then _ (begins s (at c) h) (rw (← p, ← add-one (c .nodes), ← m .nodes) (t .reads)); small = t .small; moved = omega arith; fine = t .fine } }
-begun s w more c d h p m (Refused k) t = record { here = then _ (begins s (at c) h) (rw (← p, ← add-one (c .nodes), ← m .nodes) (t .here)) }
+begin-many w zero h k = absurd (h refl)
+begin-many w (suc d) h k = stop _ (too-many _ _ k)
+
+begin-then : (w d : ℕ) {s : List ℕ} {c c1 : At} {res : Res (ℕ × At)} → (d ≡ 0 → ⊥) → Gives begin s c (ok (0, c1)) → Gives (bits w) s c1 res → Gives (beginR w d) s c res
+unfolding beginR
+begin-then w zero h g k = absurd (h refl)
+begin-then w (suc d) h g k = then _ g k
+
+pub begun : (s : List ℕ) (w more d : ℕ) (c e : Cursor) → (d ≡ 0 → ⊥) → c .nodes < mostNodes → e .pos ≡ c .pos → Moved 1 more c e → (r : Step) → Takes (bits w) s e 0 0 (2 ^ w) r → Takes (beginR w d) s c 1 more (2 ^ w) r
+begun s w more d c e z h p m (Next v f) u =
+    let t = u .here in
+    record { here = record { reads = begin-then w d z (begins s (at c) h) (rw (← p, ← add-one (c .nodes), ← m .nodes) (t .reads)); small = t .small; moved = omega arith; fine = t .fine } }
+begun s w more d c e z h p m (Refused k) t = record { here = begin-then w d z (begins s (at c) h) (rw (← p, ← add-one (c .nodes), ← m .nodes) (t .here)) }
+
+-- a node that began was not too deep
+pub not-deep : (w d : ℕ) {s : List ℕ} {c c1 : At} {v : ℕ} → Gives (beginR w d) s c (ok (v, c1)) → 0 < d
+not-deep w zero g = absurd (never (unique g (begin-deep w 0 refl)))
+not-deep w (suc d) g = omega arith
 
 -- characters that are there, and characters that are not
-pub chars-in : (n : ℕ) (s : List ℕ) (p m : ℕ) → p + 7 * n ≤ 8 * length s → Gives (many n (bits 7)) s (record { pos = p; nodes = m }) (ok (charsAt s n p, record { pos = p + 7 * n; nodes = m }))
+pub chars-in : (n : ℕ) (s : List ℕ) (p m : ℕ) → p + 7 * n ≤ byteBits * length s → Gives (many n (bits charBits)) s (record { pos = p; nodes = m }) (ok (charsAt s n p, record { pos = p + 7 * n; nodes = m }))
 unfolding many charsAt
 chars-in zero s p m h = let e : p + 0 ≡ p = omega arith in rw e done
 chars-in (suc n) s p m h =
     let e : p + 7 * suc n ≡ p + 7 + 7 * n = omega arith in
     rw e (then _ (bits-in s 7 (record { pos = p; nodes = m }) _ _ (sym (field-in s 7 p (omega arith)))) (then _ (chars-in n s (p + 7) m (omega arith)) done))
 
-pub chars-out : (n : ℕ) (s : List ℕ) (p m : ℕ) → p ≤ 8 * length s → 8 * length s < p + 7 * n → Gives (many n (bits 7)) s (record { pos = p; nodes = m }) (refused 3)
+pub chars-out : (n : ℕ) (s : List ℕ) (p m : ℕ) → p ≤ byteBits * length s → byteBits * length s < p + 7 * n → Gives (many n (bits charBits)) s (record { pos = p; nodes = m }) (refused endsInField)
 unfolding many
 chars-out zero s p m i h = absurd (omega arith)
-chars-out (suc n) s p m i h = by n s p m (λ j k. chars-out n s (p + 7) m j k) h (leb (p + 7) (8 * length s)) refl
+chars-out (suc n) s p m i h = by n s p m (λ j k. chars-out n s (p + 7) m j k) h (leb (p + 7) (byteBits * length s)) refl
   where
-    by : (n : ℕ) (s : List ℕ) (p m : ℕ) → (p + 7 ≤ 8 * length s → 8 * length s < p + 7 + 7 * n → Gives (many n (bits 7)) s (record { pos = p + 7; nodes = m }) (refused 3))
-        → 8 * length s < p + 7 * suc n → (b : Bool) → leb (p + 7) (8 * length s) ≡ b → Gives (many (suc n) (bits 7)) s (record { pos = p; nodes = m }) (refused 3)
+    by : (n : ℕ) (s : List ℕ) (p m : ℕ) → (p + 7 ≤ byteBits * length s → byteBits * length s < p + 7 + 7 * n → Gives (many n (bits charBits)) s (record { pos = p + 7; nodes = m }) (refused endsInField))
+        → byteBits * length s < p + 7 * suc n → (b : Bool) → leb (p + 7) (byteBits * length s) ≡ b → Gives (many (suc n) (bits charBits)) s (record { pos = p; nodes = m }) (refused endsInField)
     by n s p m more h true e =
-        let k : p + 7 ≤ 8 * length s = leb-true _ _ e in
+        let k : p + 7 ≤ byteBits * length s = leb-true _ _ e in
         then _ (bits-in s 7 (record { pos = p; nodes = m }) _ _ (sym (field-in s 7 p k))) (stop _ (more k (omega arith)))
     by n s p m more h false e = stop _ (bits-out s 7 (record { pos = p; nodes = m }) (sym (field-out s 7 p (leb-false _ _ e))))
-
--- ONE ANSWER: a reader gives one result
-
-pub unique : {A : Type 0} {m : Reader A} {s : List ℕ} {c : At} {x y : Res (A × At)} → Gives m s c x → Gives m s c y → x ≡ y
-unique d e = sym (d .is) ∙ e .is
-
-inject : {A : Type 0} {x y : A} → ok x ≡ ok y → x ≡ y
-inject {A} {x} {y} e = cc
-
-injectN : {A : Type 0} {m n : ℕ} → _≡_ {A = Res A} (refused m) (refused n) → m ≡ n
-injectN {A} {m} {n} e = cc
-
-never : {A : Type 0} {x : A} {n : ℕ} → ok x ≡ refused n → ⊥
-never {A} {x} {n} e = let z : _≡_ {A = ℕ} 0 1 = cc in omega arith
 
 pub data Seen {A : Type 0} (m : Reader A) (s : List ℕ) (c : At) : Type 0 where
   said : (a : A) (d : At) → Gives m s c (ok (a, d)) → Seen m s c
@@ -123,19 +147,19 @@ see {A} m s c = by (m s c) refl
 -- what bits that were there spell
 pub record Spelled (s : List ℕ) (w p v : ℕ) : Type 0 where
   pub is : v ≡ spelled s w p
-  pub inside : p + w ≤ 8 * length s
+  pub inside : p + w ≤ byteBits * length s
 
 pub spells : {s : List ℕ} {w v : ℕ} {c d : At} → Gives (bits w) s c (ok (v, d)) → Spelled s w (c .pos) v
-spells {s} {w} {v} {c} {d} g = by (leb (c .pos + w) (8 * length s)) refl
+spells {s} {w} {v} {c} {d} g = by (leb (c .pos + w) (byteBits * length s)) refl
   where
-    by : (b : Bool) → leb (c .pos + w) (8 * length s) ≡ b → Spelled s w (c .pos) v
+    by : (b : Bool) → leb (c .pos + w) (byteBits * length s) ≡ b → Spelled s w (c .pos) v
     by true h =
         let k = leb-true _ _ h in
         let e = inject (unique g (bits-in s w c _ _ (sym (field-in s w (c .pos) k)))) in
         record { is = ap (λ (x : ℕ × At). x .0) e; inside = k }
     by false h = absurd (never (unique g (bits-out s w c (sym (field-out s w (c .pos) (leb-false _ _ h))))))
 
--- OPERATORS: the list's length is the limit
+-- ---- operators: the list's length is the limit
 
 pub record Picked {A : Type 0} (ops : List A) (k : ℕ) : Type 0 where
   pub val : A
@@ -155,14 +179,14 @@ pub op-in : {A : Type 0} (ops : List A) (w : ℕ) {v : ℕ} {o : A} {s : List �
 unfolding operator
 op-in {A = A} ops w {v = v} {o = o} {s = s} {d = d} g e = then _ g (chosen (getElem? ops v) e)
   where
-    chosen : (x : Option A) → x ≡ some o → Gives (elim x [ none ↦ refuse 4 | some o ↦ pure o ]) s d (ok (o, d))
+    chosen : (x : Option A) → x ≡ some o → Gives (elim x [ none ↦ refuse unassigned | some o ↦ pure o ]) s d (ok (o, d))
     chosen x e = rw e done
 
-pub op-out : {A : Type 0} (ops : List A) (w : ℕ) {v : ℕ} {s : List ℕ} {c d : At} → Gives (bits w) s c (ok (v, d)) → length ops ≤ v → Gives (operator w ops) s c (refused 4)
+pub op-out : {A : Type 0} (ops : List A) (w : ℕ) {v : ℕ} {s : List ℕ} {c d : At} → Gives (bits w) s c (ok (v, d)) → length ops ≤ v → Gives (operator w ops) s c (refused unassigned)
 unfolding operator refuse
 op-out {A = A} ops w {v = v} {s = s} {d = d} g h = then _ g (chosen (getElem? ops v) (no-more ops v h))
   where
-    chosen : (x : Option A) → x ≡ none → Gives {A = A} (elim x [ none ↦ refuse 4 | some o ↦ pure o ]) s d (refused 4)
+    chosen : (x : Option A) → x ≡ none → Gives {A = A} (elim x [ none ↦ refuse unassigned | some o ↦ pure o ]) s d (refused unassigned)
     chosen x e = rw e (record { is = refl })
 
 -- a limited field, from its bits
@@ -190,22 +214,22 @@ below-bits w n k {v} {s} {c} {d} g = by (see (bits w) s c)
         tested true h = rw (unique g (below-in w n k r (ltb-true a n h))) r
         tested false h = absurd (never (unique g (below-out w n k r (ltb-false a n h))))
 
-pub op-ok : {A : Type 0} (ops : List A) (w n : ℕ) {v : ℕ} {o : A} {s : List ℕ} {c d : At} → Gives (belowR w n 4) s c (ok (v, d)) → getElem? ops v ≡ some o → Gives (operator w ops) s c (ok (o, d))
-op-ok ops w n g e = op-in ops w (below-bits w n 4 g) e
+pub op-ok : {A : Type 0} (ops : List A) (w n : ℕ) {v : ℕ} {o : A} {s : List ℕ} {c d : At} → Gives (belowR w n unassigned) s c (ok (v, d)) → getElem? ops v ≡ some o → Gives (operator w ops) s c (ok (o, d))
+op-ok ops w n g e = op-in ops w (below-bits w n unassigned g) e
 
-pub op-no : {A : Type 0} (ops : List A) (w n : ℕ) {x : ℕ} {s : List ℕ} {c : At} → length ops ≡ n → Gives (belowR w n 4) s c (refused x) → Gives (operator w ops) s c (refused x)
+pub op-no : {A : Type 0} (ops : List A) (w n : ℕ) {x : ℕ} {s : List ℕ} {c : At} → length ops ≡ n → Gives (belowR w n unassigned) s c (refused x) → Gives (operator w ops) s c (refused x)
 unfolding operator
 op-no ops w n {x} {s} {c} l g = by (see (bits w) s c)
   where
     by : Seen (bits w) s c → Gives (operator w ops) s c (refused x)
-    by (refuses y r) = let z : x ≡ y = injectN (unique g (below-short w n 4 r)) in rw z (stop _ r)
+    by (refuses y r) = let z : x ≡ y = inject-refused (unique g (below-short w n unassigned r)) in rw z (stop _ r)
     by (said a e r) = tested (ltb a n) refl
       where
         tested : (b : Bool) → ltb a n ≡ b → Gives (operator w ops) s c (refused x)
-        tested true h = absurd (never (unique (below-in w n 4 r (ltb-true a n h)) g))
+        tested true h = absurd (never (unique (below-in w n unassigned r (ltb-true a n h)) g))
         tested false h =
             let k : n ≤ a = ltb-false a n h in
-            let y : x ≡ 4 = injectN (unique g (below-out w n 4 r k)) in
+            let y : x ≡ unassigned = inject-refused (unique g (below-out w n unassigned r k)) in
             rw y (op-out ops w r (omega arith))
 
 -- two steps that are taken as one
@@ -224,7 +248,7 @@ assoc {C = C} m g f {s} {c} {res} h = by (see m s c)
             rest : (x : Res (C × At)) → f b s e ≡ x → Gives (f b) s e res
             rest x i = rw (unique h (then _ (then _ r q) (record { is = i }))) (record { is = i })
 
--- OPENING AN ANSWER, by what the code learnt of it
+-- ---- an answer opened, by what the code learnt of it
 
 pub took : {m : Reader ℕ} {s : List ℕ} {c d : Cursor} {n k l v : ℕ} {st : Step} → Takes m s c n k l st → st ≡ Next v d → Took m s c n k l v d
 took h e = rw e at (h .here)
@@ -235,11 +259,11 @@ failed h e = rw e at (h .here)
 pub skipped : {s : List ℕ} {c d : Cursor} {n v : ℕ} {st : Step} → Skips n s c st → st ≡ Next v d → Skipped n s c d
 skipped h e = rw e at (h .here)
 
-pub not-skipped : {s : List ℕ} {c : Cursor} {n x : ℕ} {st : Step} → Skips n s c st → st ≡ Refused x → Gives (many n (bits 7)) s (at c) (refused x)
+pub not-skipped : {s : List ℕ} {c : Cursor} {n x : ℕ} {st : Step} → Skips n s c st → st ≡ Refused x → Gives (many n (bits charBits)) s (at c) (refused x)
 not-skipped h e = rw e at (h .here)
 
 -- a name is a limited field
-pub named : (n : ℕ) {s : List ℕ} {c : At} {res : Res (ℕ × At)} → Gives (belowR 8 n 5) s c res → Gives (nameOf n) s c res
+pub named : (n : ℕ) {s : List ℕ} {c : At} {res : Res (ℕ × At)} → Gives (belowR nameBits n unknownName) s c res → Gives (nameOf n) s c res
 unfolding belowR nameOf
 named n g = g
 

@@ -5,9 +5,9 @@ use Prim.Native.Nat.{ℕ, zero, suc, _+_, _*_, _≤_, _<_}
 use lib.Dec.{ltb}
 use lib.ListN.{length}
 use Rattle.rules.specs.Constants.{mostBytes, mostNodes, byteBits, charBits}
-use Rattle.rules.specs.Refusal.{endsInField}
+use Rattle.rules.specs.Refusal.{endsInField, tooDeep}
 use Rattle.rules.specs.Bits.{Res, refused, ok, spelled}
-use Rattle.rules.specs.Parse.{Reader, At, pure, demand, begin, bits, many, _>>=_}
+use Rattle.rules.specs.Parse.{Reader, At, pure, refuse, demand, begin, bits, many, _>>=_}
 use Rattle.bits.specs.declared.Field.{Field}
 use Rattle.bits.specs.declared.Field.the-variants.{Value, Short}
 use Rattle.bits.specs.declared.Cursor.{Cursor}
@@ -66,9 +66,10 @@ belowR w limit k = do
   _ ← demand (ltb x limit) k
   pure x
 
--- a node begins, and its kind
-unfoldable pub beginR : ℕ → Reader ℕ
-beginR w = do
+-- a node begins with d levels left, and its kind
+unfoldable pub beginR : ℕ → ℕ → Reader ℕ
+beginR w zero = refuse tooDeep
+beginR w (suc d) = do
   _ ← begin
   bits w
 

@@ -16,6 +16,7 @@ use limits::BYTE_BITS;
 use limits::CHAR_BITS;
 use limits::MOST_NODES;
 use refusal::ENDS_IN_FIELD;
+use refusal::TOO_DEEP;
 use refusal::TOO_MANY_NODES;
 
 // A value with the next bit position, or the end of the file inside the field.
@@ -125,17 +126,20 @@ pub fn below(s: &[u8], c: Cursor, w: usize, limit: u64, number: u64) -> Step
     Step::Next(v, d)
 }
 
-// A node begins, and the w bits of its kind. A statement (more is 1) is counted here, with its own section.
-pub fn begin(s: &[u8], c: Cursor, w: usize, more: usize) -> Step
+// A node begins with `depth` levels left, itself among them, and the w bits of its kind: first it must not be too deep, then not one too many.
+// A statement (more is 1) is counted here, with its own section.
+pub fn begin(s: &[u8], c: Cursor, w: usize, more: usize, depth: usize) -> Step
     requires { ⌜ (Fine (now s) c) × ((w ≤ numberBits) × (more ≤ 1)) ⌝ }
-    ensures { λ r. ⌜ Takes (beginR w) (now (s .entry)) c 1 more (2 ^ w) r ⌝ }
+    ensures { λ r. ⌜ Takes (beginR w depth) (now (s .entry)) c 1 more (2 ^ w) r ⌝ }
 {
-    let n = c.nodes;
-    if n >= MOST_NODES {
+    if depth == 0 {
+        return Step::Refused(TOO_DEEP);
+    }
+    if c.nodes >= MOST_NODES {
         return Step::Refused(TOO_MANY_NODES);
     }
     let mut d = c;
-    d.nodes = n + 1;
+    d.nodes = c.nodes + 1;
     d.statements = c.statements + more;
     d.sections = c.sections + more;
     take(s, d, w)

@@ -26,7 +26,6 @@ use bits::limits::OPERATOR_BITS;
 use bits::limits::STMT_KIND_BITS;
 use bits::limits::STRING_LENGTH_BITS;
 use bits::limits::UNOPS;
-use bits::refusal::TOO_DEEP;
 use bits::refusal::UNASSIGNED;
 use bits::refusal::UNKNOWN_NAME;
 use kinds::ASSIGN;
@@ -167,15 +166,12 @@ pub fn read_expr(s: &[u8], t: &mut [u64], c: Cursor, names: u64, depth: usize) -
     requires { ⌜ Ready (now s) (now t) c names ⌝ }
     ensures { λ r. ⌜ ReadsExpr (now (s .entry)) (now (t .entry)) (now (t .exit)) c names depth r ⌝ }
 {
-    if depth == 0 {
-        return Step::Refused(TOO_DEEP);
-    }
-    let d = depth - 1;
     let i = c.nodes;
-    let r = bits::begin(s, c, EXPR_KIND_BITS, 0);
+    let r = bits::begin(s, c, EXPR_KIND_BITS, 0, depth);
     let Step::Next(kind, c1) = r else {
         return r;
     };
+    let d = depth - 1;
     match kind {
         BINOP => {
             let r1 = bits::below(s, c1, OPERATOR_BITS, BINOPS, UNASSIGNED);
@@ -244,15 +240,12 @@ pub fn read_stmt(s: &[u8], t: &mut [u64], c: Cursor, names: u64, depth: usize) -
     requires { ⌜ Ready (now s) (now t) c names ⌝ }
     ensures { λ r. ⌜ ReadsStmt (now (s .entry)) (now (t .entry)) (now (t .exit)) c names depth r ⌝ }
 {
-    if depth == 0 {
-        return Step::Refused(TOO_DEEP);
-    }
-    let d = depth - 1;
     let i = c.nodes;
-    let r = bits::begin(s, c, STMT_KIND_BITS, 1);
+    let r = bits::begin(s, c, STMT_KIND_BITS, 1, depth);
     let Step::Next(kind, c1) = r else {
         return r;
     };
+    let d = depth - 1;
     match kind {
         FILE_GOTO => goto_rest(s, t, c1, names, d, i),
         FILE_ITE => {

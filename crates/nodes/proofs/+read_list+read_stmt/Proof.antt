@@ -1,5 +1,5 @@
 use mathlib.Core.Path.{_∙_}
-use Rattle.nodes.proofs.Arms.{stmt-deep, stmt-stop, arm-goto, arm-ite, arm-incdec, arm-assign, arm-none}
+use Rattle.nodes.proofs.Arms.{stmt-stop, arm-goto, arm-ite, arm-incdec, arm-assign, arm-none}
 use Rattle.nodes.proofs.Lists.{list-then, list-stop, list-built, list-stops, mid-start, mid-more}
 use Rattle.nodes.proofs.Puts.{put-ite}
 use Rattle.nodes.proofs.Ite.{ite-spans, ite-lists, ite-fine, ite-adds}
@@ -14,7 +14,7 @@ use Rattle.rules.specs.Tree.{ofBlock, statement as statementS, both}
 use Prim.Native.Nat.{_-_}
 use Rattle.nodes.proofs.Table.{agree-refl}
 use Rattle.nodes.proofs.Built.{sealed, refuses, built, unbuilt, behind}
-use Rattle.bits.proofs.Gives.{then, stop, done, took, failed, skipped, not-skipped, named, spells}
+use Rattle.bits.proofs.Gives.{then, stop, done, took, failed, not-deep}
 use Rattle.rules.specs.Tree.{Expr, node, none, ofExpr}
 use native.Mathlib.Omega.{arith}
 use Prim.Native.Nat.{_+_, _*_, _<_, _≤_}
@@ -132,16 +132,9 @@ read-list-returns-3 t c =
     let k = took (c .before .before .before .before .before .take .ensures) (c .before .before .before .r .given .1) in
     record { here = list-built k (c .before .loop .inv .1) (c .loop-test .left) }
 
-read-stmt-returns : (t : ℕ) → read-stmt-lts.Need-returns (claims-read-stmt t) (read-stmt-at t) read-stmt.Post
-read-stmt-returns t c =
-    record { here = stmt-deep _ _ (c .if1 .taken) }
-
-read-stmt-sub-d : (t : ℕ) → read-stmt-lts.Need-sub-d (claims-read-stmt t) (read-stmt-at t) read-stmt.Post
-read-stmt-sub-d t c = search needs
-
 read-stmt-begin-requires : (t : ℕ) → read-stmt-lts.Need-begin-requires (claims-read-stmt t) (read-stmt-at t) read-stmt.Post
 read-stmt-begin-requires t c κs =
-    (c .before .before .before .pre .1 .fine, omega arith)
+    (c .before .before .pre .1 .fine, omega arith)
 
 read-stmt-enum-known-r : (t : ℕ) → read-stmt-lts.Need-enum-known-r (claims-read-stmt t) (read-stmt-at t) read-stmt.Post
 read-stmt-enum-known-r t c = search needs
@@ -149,20 +142,26 @@ read-stmt-enum-known-r t c = search needs
 read-stmt-enum-told : (t : ℕ) → read-stmt-lts.Need-enum-told (claims-read-stmt t) (read-stmt-at t) read-stmt.Post
 read-stmt-enum-told t c = search needs
 
-read-stmt-returns-2 : (t : ℕ) → read-stmt-lts.Need-returns-2 (claims-read-stmt t) (read-stmt-at t) read-stmt.Post
-read-stmt-returns-2 t c =
+read-stmt-returns : (t : ℕ) → read-stmt-lts.Need-returns (claims-read-stmt t) (read-stmt-at t) read-stmt.Post
+read-stmt-returns t c =
     let e = c .enum-told .given .1 in
-    refuses e (stmt-stop _ _ (c .before .before .before .if1 .left) (failed (c .before .before .begin .ensures) e))
+    refuses e (stmt-stop _ _ (failed (c .before .before .begin .ensures) e))
+
+read-stmt-sub-d : (t : ℕ) → read-stmt-lts.Need-sub-d (claims-read-stmt t) (read-stmt-at t) read-stmt.Post
+read-stmt-sub-d t c =
+    let b = took (c .before .before .before .begin .ensures) (c .before .r .given .1) in
+    let h = not-deep _ _ (b .reads) in
+    omega arith
 
 read-stmt-goto-rest-requires : (t : ℕ) → read-stmt-lts.Need-goto-rest-requires (claims-read-stmt t) (read-stmt-at t) read-stmt.Post
 read-stmt-goto-rest-requires t c κs =
-    let p = c .before .before .before .before .before .before .before .before .before .pre .1 in
+    let p = c .before .before .before .before .before .before .before .before .pre .1 in
     let b = took (c .before .before .before .before .before .begin .ensures) (c .before .before .before .r .given .1) in
     record { node = record { ready = record { fine = b .fine; room = p .room; names = p .names }; begun = b .moved .nodes; strings = omega arith }; statements = omega arith; sections = omega arith }
 
 read-stmt-read-expr-requires : (t : ℕ) → read-stmt-lts.Need-read-expr-requires (claims-read-stmt t) (read-stmt-at t) read-stmt.Post
 read-stmt-read-expr-requires t c κs =
-    let p = c .before .before .before .before .before .before .before .before .before .pre .1 in
+    let p = c .before .before .before .before .before .before .before .before .pre .1 in
     let b = took (c .before .before .before .before .before .begin .ensures) (c .before .before .before .r .given .1) in
     record { fine = b .fine; room = p .room; names = p .names }
 
@@ -175,17 +174,18 @@ read-stmt-enum-told-2 t c = search needs
 read-stmt-same-length : (t : ℕ) → read-stmt-lts.Need-same-length (claims-read-stmt t) (read-stmt-at t) read-stmt.Post
 read-stmt-same-length t c = search needs
 
-read-stmt-returns-3 : (t : ℕ) → read-stmt-lts.Need-returns-3 (claims-read-stmt t) (read-stmt-at t) read-stmt.Post
+read-stmt-returns-2 : (t : ℕ) → read-stmt-lts.Need-returns-2 (claims-read-stmt t) (read-stmt-at t) read-stmt.Post
 unfolding iteOf
-read-stmt-returns-3 t c =
+read-stmt-returns-2 t c =
     let e = c .enum-told2 .given .1 in
     let b = took (c .before .before .before .before .before .before .before .before .before .before .begin .ensures) (c .before .before .before .before .before .before .before .before .r .given .1) in
-    refuses e (arm-ite _ _ (c .before .before .before .before .before .before .before .before .before .before .before .if1 .left) (c .before .before .before .before .before .before .match2 .keys2) (b .reads) (stop _ (unbuilt (c .before .before .before .before .read-expr .ensures) e)))
+    refuses e (arm-ite _ _ (c .before .before .before .before .before .before .match2 .keys2) (b .reads) (stop _ (unbuilt (c .before .before .before .before .read-expr .ensures) e)))
 
 read-stmt-read-list-requires : (t : ℕ) → read-stmt-lts.Need-read-list-requires (claims-read-stmt t) (read-stmt-at t) read-stmt.Post
 read-stmt-read-list-requires t c κs =
-    let p = c .before .before .before .before .before .before .before .before .before .before .before .before .before .before .before .before .pre in
-    let z = c .before .before .before .before .before .before .before .before .before .before .before .before .before .if1 .left in
+    let p = c .before .before .before .before .before .before .before .before .before .before .before .before .before .before .before .pre in
+    let b = took (c .before .before .before .before .before .before .before .before .before .before .before .before .begin .ensures) (c .before .before .before .before .before .before .before .before .before .before .r .given .1) in
+    let h = not-deep _ _ (b .reads) in
     let x = built (c .before .before .before .before .before .before .read-expr .ensures) (c .before .before .r1 .given .1) .fine in
     let k = c .before .before .before .before .before .before .read-expr .kept in
     (omega arith, record { fine = x; room = omega arith; names = p .1 .names })
@@ -199,18 +199,19 @@ read-stmt-enum-told-3 t c = search needs
 read-stmt-same-length-2 : (t : ℕ) → read-stmt-lts.Need-same-length-2 (claims-read-stmt t) (read-stmt-at t) read-stmt.Post
 read-stmt-same-length-2 t c = search needs
 
-read-stmt-returns-4 : (t : ℕ) → read-stmt-lts.Need-returns-4 (claims-read-stmt t) (read-stmt-at t) read-stmt.Post
+read-stmt-returns-3 : (t : ℕ) → read-stmt-lts.Need-returns-3 (claims-read-stmt t) (read-stmt-at t) read-stmt.Post
 unfolding iteOf
-read-stmt-returns-4 t c =
+read-stmt-returns-3 t c =
     let e = c .enum-told3 .given .1 in
     let b = took (c .before .before .before .before .before .before .before .before .before .before .before .before .before .before .before .before .before .begin .ensures) (c .before .before .before .before .before .before .before .before .before .before .before .before .before .before .before .r .given .1) in
     let x = built (c .before .before .before .before .before .before .before .before .before .before .before .read-expr .ensures) (c .before .before .before .before .before .before .before .r1 .given .1) in
-    refuses e (arm-ite _ _ (c .before .before .before .before .before .before .before .before .before .before .before .before .before .before .before .before .before .before .if1 .left) (c .before .before .before .before .before .before .before .before .before .before .before .before .before .match2 .keys2) (b .reads) (then _ (x .reads) (list-stop _ _ _ (unbuilt (c .before .before .before .before .read-list .ensures) e))))
+    refuses e (arm-ite _ _ (c .before .before .before .before .before .before .before .before .before .before .before .before .before .match2 .keys2) (b .reads) (then _ (x .reads) (list-stop _ _ _ (unbuilt (c .before .before .before .before .read-list .ensures) e))))
 
 read-stmt-read-list-requires-2 : (t : ℕ) → read-stmt-lts.Need-read-list-requires-2 (claims-read-stmt t) (read-stmt-at t) read-stmt.Post
 read-stmt-read-list-requires-2 t c κs =
-    let p = c .before .before .before .before .before .before .before .before .before .before .before .before .before .before .before .before .before .before .before .before .before .before .before .pre in
-    let z = c .before .before .before .before .before .before .before .before .before .before .before .before .before .before .before .before .before .before .before .before .if1 .left in
+    let p = c .before .before .before .before .before .before .before .before .before .before .before .before .before .before .before .before .before .before .before .before .before .before .pre in
+    let b = took (c .before .before .before .before .before .before .before .before .before .before .before .before .before .before .before .before .before .before .before .begin .ensures) (c .before .before .before .before .before .before .before .before .before .before .before .before .before .before .before .before .before .r .given .1) in
+    let h = not-deep _ _ (b .reads) in
     let x = built (c .before .before .before .before .before .before .read-list .ensures) (c .before .before .r2 .given .1) .fine in
     let k = c .before .before .before .before .before .before .before .before .before .before .before .before .before .read-expr .kept in
     let l = c .before .before .before .before .before .before .read-list .kept in
@@ -225,18 +226,18 @@ read-stmt-enum-told-4 t c = search needs
 read-stmt-same-length-3 : (t : ℕ) → read-stmt-lts.Need-same-length-3 (claims-read-stmt t) (read-stmt-at t) read-stmt.Post
 read-stmt-same-length-3 t c = search needs
 
-read-stmt-returns-5 : (t : ℕ) → read-stmt-lts.Need-returns-5 (claims-read-stmt t) (read-stmt-at t) read-stmt.Post
+read-stmt-returns-4 : (t : ℕ) → read-stmt-lts.Need-returns-4 (claims-read-stmt t) (read-stmt-at t) read-stmt.Post
 unfolding iteOf
-read-stmt-returns-5 t c =
+read-stmt-returns-4 t c =
     let e = c .enum-told4 .given .1 in
     let b = took (c .before .before .before .before .before .before .before .before .before .before .before .before .before .before .before .before .before .before .before .before .before .before .before .before .begin .ensures) (c .before .before .before .before .before .before .before .before .before .before .before .before .before .before .before .before .before .before .before .before .before .before .r .given .1) in
     let x = built (c .before .before .before .before .before .before .before .before .before .before .before .before .before .before .before .before .before .before .read-expr .ensures) (c .before .before .before .before .before .before .before .before .before .before .before .before .before .before .r1 .given .1) in
     let y = built (c .before .before .before .before .before .before .before .before .before .before .before .read-list .ensures) (c .before .before .before .before .before .before .before .r2 .given .1) in
-    refuses e (arm-ite _ _ (c .before .before .before .before .before .before .before .before .before .before .before .before .before .before .before .before .before .before .before .before .before .before .before .before .before .if1 .left) (c .before .before .before .before .before .before .before .before .before .before .before .before .before .before .before .before .before .before .before .before .match2 .keys2) (b .reads) (then _ (x .reads) (list-then _ _ _ (y .reads) (list-stop _ _ _ (unbuilt (c .before .before .before .before .read-list2 .ensures) e)))))
+    refuses e (arm-ite _ _ (c .before .before .before .before .before .before .before .before .before .before .before .before .before .before .before .before .before .before .before .before .match2 .keys2) (b .reads) (then _ (x .reads) (list-then _ _ _ (y .reads) (list-stop _ _ _ (unbuilt (c .before .before .before .before .read-list2 .ensures) e)))))
 
 read-stmt-close-ite-requires : (t : ℕ) → read-stmt-lts.Need-close-ite-requires (claims-read-stmt t) (read-stmt-at t) read-stmt.Post
 read-stmt-close-ite-requires t c κs =
-    let p = c .before .before .before .before .before .before .before .before .before .before .before .before .before .before .before .before .before .before .before .before .before .before .before .before .before .before .before .before .before .before .pre .1 in
+    let p = c .before .before .before .before .before .before .before .before .before .before .before .before .before .before .before .before .before .before .before .before .before .before .before .before .before .before .before .before .before .pre .1 in
     let n = took (c .before .before .before .before .before .before .before .before .before .before .before .before .before .before .before .before .before .before .before .before .before .before .before .before .before .before .begin .ensures) (c .before .before .before .before .before .before .before .before .before .before .before .before .before .before .before .before .before .before .before .before .before .before .before .before .r .given .1) .moved in
     let z = took (c .before .before .before .before .before .before .before .before .before .before .before .before .before .before .before .before .before .before .before .before .before .before .before .before .before .before .begin .ensures) (c .before .before .before .before .before .before .before .before .before .before .before .before .before .before .before .before .before .before .before .before .before .before .before .before .r .given .1) .fine in
     let x = built (c .before .before .before .before .before .before .before .before .before .before .before .before .before .before .before .before .before .before .before .before .read-expr .ensures) (c .before .before .before .before .before .before .before .before .before .before .before .before .before .before .before .before .r1 .given .1) .counts in
@@ -252,33 +253,33 @@ read-stmt-close-ite-requires t c κs =
 
 read-stmt-flagged-requires : (t : ℕ) → read-stmt-lts.Need-flagged-requires (claims-read-stmt t) (read-stmt-at t) read-stmt.Post
 read-stmt-flagged-requires t c κs =
-    let p = c .before .before .before .before .before .before .before .before .before .pre .1 in
+    let p = c .before .before .before .before .before .before .before .before .pre .1 in
     let b = took (c .before .before .before .before .before .begin .ensures) (c .before .before .before .r .given .1) in
     (record { ready = record { fine = b .fine; room = p .room; names = p .names }; begun = b .moved .nodes; strings = omega arith }, omega arith)
 
 read-stmt-assign-requires : (t : ℕ) → read-stmt-lts.Need-assign-requires (claims-read-stmt t) (read-stmt-at t) read-stmt.Post
 read-stmt-assign-requires t c κs =
-    let p = c .before .before .before .before .before .before .before .before .before .pre .1 in
+    let p = c .before .before .before .before .before .before .before .before .pre .1 in
     let b = took (c .before .before .before .before .before .begin .ensures) (c .before .before .before .r .given .1) in
     record { node = record { ready = record { fine = b .fine; room = p .room; names = p .names }; begun = b .moved .nodes; strings = omega arith }; statements = omega arith; sections = omega arith }
 
 read-stmt-same-length-4 : (t : ℕ) → read-stmt-lts.Need-same-length-4 (claims-read-stmt t) (read-stmt-at t) read-stmt.Post
 read-stmt-same-length-4 t c = search needs
 
-read-stmt-returns-6 : (t : ℕ) → read-stmt-lts.Need-returns-6 (claims-read-stmt t) (read-stmt-at t) read-stmt.Post
-read-stmt-returns-6 t c =
+read-stmt-returns-5 : (t : ℕ) → read-stmt-lts.Need-returns-5 (claims-read-stmt t) (read-stmt-at t) read-stmt.Post
+read-stmt-returns-5 t c =
     let b = took (c .before .before .before .before .before .before .before .before .begin .ensures) (c .before .before .before .before .before .before .r .given .1) in
     let m = b .moved in
-    behind (λ res g. arm-goto _ _ (c .before .before .before .before .before .before .before .before .before .if1 .left) (c .before .before .before .before .match2 .keys1) (b .reads) g) refl (λ f d n. record { adds = λ xs e k. let z = n .adds xs e k in omega arith }) (c .before .before .goto-rest .ensures)
+    behind (λ res g. arm-goto _ _ (c .before .before .before .before .match2 .keys1) (b .reads) g) refl (λ f d n. record { adds = λ xs e k. let z = n .adds xs e k in omega arith }) (c .before .before .goto-rest .ensures)
 
 read-stmt-same-length-5 : (t : ℕ) → read-stmt-lts.Need-same-length-5 (claims-read-stmt t) (read-stmt-at t) read-stmt.Post
 read-stmt-same-length-5 t c =
     c .before .before .close-ite .kept .0 ∙ c .before .before .before .before .before .before .before .before .before .read-list2 .kept .1 .0 ∙ c .before .before .before .before .before .before .before .before .before .before .before .before .before .before .before .before .read-list .kept .1 .0 ∙ c .before .before .before .before .before .before .before .before .before .before .before .before .before .before .before .before .before .before .before .before .before .before .before .read-expr .kept .1 .0
 
-read-stmt-returns-7 : (t : ℕ) → read-stmt-lts.Need-returns-7 (claims-read-stmt t) (read-stmt-at t) read-stmt.Post
+read-stmt-returns-6 : (t : ℕ) → read-stmt-lts.Need-returns-6 (claims-read-stmt t) (read-stmt-at t) read-stmt.Post
 unfolding iteOf
-read-stmt-returns-7 t c =
-    let p = c .before .before .before .before .before .before .before .before .before .before .before .before .before .before .before .before .before .before .before .before .before .before .before .before .before .before .before .before .before .before .before .before .before .pre .1 in
+read-stmt-returns-6 t c =
+    let p = c .before .before .before .before .before .before .before .before .before .before .before .before .before .before .before .before .before .before .before .before .before .before .before .before .before .before .before .before .before .before .before .before .pre .1 in
     let b = took (c .before .before .before .before .before .before .before .before .before .before .before .before .before .before .before .before .before .before .before .before .before .before .before .before .before .before .before .before .before .begin .ensures) (c .before .before .before .before .before .before .before .before .before .before .before .before .before .before .before .before .before .before .before .before .before .before .before .before .before .before .before .r .given .1) in
     let x = built (c .before .before .before .before .before .before .before .before .before .before .before .before .before .before .before .before .before .before .before .before .before .before .before .read-expr .ensures) (c .before .before .before .before .before .before .before .before .before .before .before .before .before .before .before .before .before .before .before .r1 .given .1) in
     let y = built (c .before .before .before .before .before .before .before .before .before .before .before .before .before .before .before .before .read-list .ensures) (c .before .before .before .before .before .before .before .before .before .before .before .before .r2 .given .1) in
@@ -292,7 +293,7 @@ read-stmt-returns-7 t c =
     let n2 = y .counts in
     let n3 = z .counts in
     sealed _ _ _ (c .before .before .close-ite .ensures) (omega arith)
-    (arm-ite _ _ (c .before .before .before .before .before .before .before .before .before .before .before .before .before .before .before .before .before .before .before .before .before .before .before .before .before .before .before .before .before .before .if1 .left) (c .before .before .before .before .before .before .before .before .before .before .before .before .before .before .before .before .before .before .before .before .before .before .before .before .before .match2 .keys2) (b .reads) (then _ (x .reads) (list-then _ _ _ (y .reads) (list-then _ _ _ (z .reads) done))))
+    (arm-ite _ _ (c .before .before .before .before .before .before .before .before .before .before .before .before .before .before .before .before .before .before .before .before .before .before .before .before .before .match2 .keys2) (b .reads) (then _ (x .reads) (list-then _ _ _ (y .reads) (list-then _ _ _ (z .reads) done))))
     (agree-trans (agree-part (x .kept) (omega arith) (omega arith)) (agree-trans (agree-part (y .kept) (omega arith) (omega arith)) (agree-part (z .kept) (omega arith) (omega arith))))
     (λ w a. put-ite _ _ _ _ w (ite-lists (y .val) (z .val) n2 n3 (y .holds .few) (z .holds .few) (omega arith) (z .fine)) (b .moved .nodes)
     (moved (agree-trans (agree-part (y .kept) (omega arith) (omega arith)) (agree-trans (agree-part (z .kept) (omega arith) (omega arith)) (agree-part a (omega arith) (omega arith)))) (x .holds))
@@ -303,26 +304,26 @@ read-stmt-returns-7 t c =
 read-stmt-same-length-6 : (t : ℕ) → read-stmt-lts.Need-same-length-6 (claims-read-stmt t) (read-stmt-at t) read-stmt.Post
 read-stmt-same-length-6 t c = search needs
 
-read-stmt-returns-8 : (t : ℕ) → read-stmt-lts.Need-returns-8 (claims-read-stmt t) (read-stmt-at t) read-stmt.Post
-read-stmt-returns-8 t c =
+read-stmt-returns-7 : (t : ℕ) → read-stmt-lts.Need-returns-7 (claims-read-stmt t) (read-stmt-at t) read-stmt.Post
+read-stmt-returns-7 t c =
     let b = took (c .before .before .before .before .before .before .before .before .begin .ensures) (c .before .before .before .before .before .before .r .given .1) in
     let m = b .moved in
-    behind (λ res g. arm-incdec _ _ (c .before .before .before .before .before .before .before .before .before .if1 .left) (c .before .before .before .before .match2 .keys3) (b .reads) g) refl (λ f d n. n) (incdec-stmt _ _ refl (m .statements) (m .sections) (m .strings) (m .chars) (c .before .before .flagged .ensures))
+    behind (λ res g. arm-incdec _ _ (c .before .before .before .before .match2 .keys3) (b .reads) g) refl (λ f d n. n) (incdec-stmt _ _ refl (m .statements) (m .sections) (m .strings) (m .chars) (c .before .before .flagged .ensures))
 
 read-stmt-same-length-7 : (t : ℕ) → read-stmt-lts.Need-same-length-7 (claims-read-stmt t) (read-stmt-at t) read-stmt.Post
 read-stmt-same-length-7 t c = search needs
 
-read-stmt-returns-9 : (t : ℕ) → read-stmt-lts.Need-returns-9 (claims-read-stmt t) (read-stmt-at t) read-stmt.Post
-read-stmt-returns-9 t c =
+read-stmt-returns-8 : (t : ℕ) → read-stmt-lts.Need-returns-8 (claims-read-stmt t) (read-stmt-at t) read-stmt.Post
+read-stmt-returns-8 t c =
     let b = took (c .before .before .before .before .before .before .before .before .begin .ensures) (c .before .before .before .before .before .before .r .given .1) in
     let m = b .moved in
-    behind (λ res g. arm-assign _ _ (c .before .before .before .before .before .before .before .before .before .if1 .left) (c .before .before .before .before .match2 .keys4) (b .reads) g) refl (λ f d n. record { adds = λ xs e k. let z = n .adds xs e k in omega arith }) (c .before .before .assign .ensures)
+    behind (λ res g. arm-assign _ _ (c .before .before .before .before .match2 .keys4) (b .reads) g) refl (λ f d n. record { adds = λ xs e k. let z = n .adds xs e k in omega arith }) (c .before .before .assign .ensures)
 
-read-stmt-returns-10 : (t : ℕ) → read-stmt-lts.Need-returns-10 (claims-read-stmt t) (read-stmt-at t) read-stmt.Post
-read-stmt-returns-10 t c =
+read-stmt-returns-9 : (t : ℕ) → read-stmt-lts.Need-returns-9 (claims-read-stmt t) (read-stmt-at t) read-stmt.Post
+read-stmt-returns-9 t c =
     let b = took (c .before .before .before .before .begin .ensures) (c .before .before .r .given .1) in
     let k = c .match2 .rest in
-    record { here = arm-none _ _ (c .before .before .before .before .before .if1 .left) (k .0 .0 .0 .1) (k .0 .0 .1) (k .0 .1) (k .1) (b .reads) }
+    record { here = arm-none _ _ (k .0 .0 .0 .1) (k .0 .0 .1) (k .0 .1) (k .1) (b .reads) }
 
 pub +read-list+read-stmt-spec : {M : Type 1} → statement M
 +read-list+read-stmt-spec = close μ-read-list μ-read-stmt (λ t. read-list-lts.spec (claims-read-list t)
@@ -348,37 +349,36 @@ pub +read-list+read-stmt-spec : {M : Type 1} → statement M
     λ t. read-stmt-lts.spec (claims-read-stmt t)
     (read-stmt-at t)
     read-stmt.Post
-    (read-stmt-returns t)
-    (read-stmt-sub-d t)
     (read-stmt-begin-requires t)
     (read-stmt-enum-known-r t)
     (read-stmt-enum-told t)
-    (read-stmt-returns-2 t)
+    (read-stmt-returns t)
+    (read-stmt-sub-d t)
     (read-stmt-goto-rest-requires t)
     (read-stmt-read-expr-requires t)
     (read-stmt-enum-known-r1 t)
     (read-stmt-enum-told-2 t)
     (read-stmt-same-length t)
-    (read-stmt-returns-3 t)
+    (read-stmt-returns-2 t)
     (read-stmt-read-list-requires t)
     (read-stmt-enum-known-r2 t)
     (read-stmt-enum-told-3 t)
     (read-stmt-same-length-2 t)
-    (read-stmt-returns-4 t)
+    (read-stmt-returns-3 t)
     (read-stmt-read-list-requires-2 t)
     (read-stmt-enum-known-r3 t)
     (read-stmt-enum-told-4 t)
     (read-stmt-same-length-3 t)
-    (read-stmt-returns-5 t)
+    (read-stmt-returns-4 t)
     (read-stmt-close-ite-requires t)
     (read-stmt-flagged-requires t)
     (read-stmt-assign-requires t)
     (read-stmt-same-length-4 t)
-    (read-stmt-returns-6 t)
+    (read-stmt-returns-5 t)
     (read-stmt-same-length-5 t)
-    (read-stmt-returns-7 t)
+    (read-stmt-returns-6 t)
     (read-stmt-same-length-6 t)
-    (read-stmt-returns-8 t)
+    (read-stmt-returns-7 t)
     (read-stmt-same-length-7 t)
+    (read-stmt-returns-8 t)
     (read-stmt-returns-9 t)
-    (read-stmt-returns-10 t)
