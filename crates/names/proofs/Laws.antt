@@ -1,4 +1,4 @@
--- Laws of names where they stand.
+-- Laws of names where they stand. Assumes nothing.
 use mathlib.Core.Path.{_≡_, refl, sym, _∙_, ap}
 use mathlib.Core.Bool.{Bool, true, false, not, _&&_, Bool·beq}
 use mathlib.Core.List.{List, [], _∷_, _++_}
@@ -8,6 +8,7 @@ use native.Mathlib.Numerals.{add-one, sub-one}
 use borrow.Author.Tests.{eq-eqb, ne-eqb, eqb-true, eqb-false}
 use lib.Dec.{eqb}
 use lib.ListN.{length}
+use Rattle.rules.specs.Refusal.{equalNames}
 use Rattle.rules.specs.Bits.{Res, refused, ok, bit, spelled, isOne}
 use Rattle.rules.specs.Tree.{Name}
 use Rattle.rules.specs.Parse.{Reader, At, name, names, known, sameName, sameChars, demand, bits, many, pure, refuse, _>>=_}
@@ -136,7 +137,7 @@ unfolding namesAt endAt
 names-snoc s zero p = refl
 names-snoc s (suc k) p = ap (λ (l : List Name). nameAt s p ∷ l) (names-snoc s k (nextName s p))
 
--- A NAME AND THE NAMES BEHIND IT
+-- ---- a name and the names behind it
 
 pass-new : (x : Name) (ys : List Name) {n : ℕ} {s : List ℕ} {c : At} → known x ys ≡ false → Gives (demand (not (known x ys)) n) s c (ok (n, c))
 unfolding demand pure
@@ -156,7 +157,7 @@ unfolding names
 names-short zero ys h g = absurd (omega arith)
 names-short (suc l) ys h g = stop _ g
 
-names-twice : (l : ℕ) (ys : List Name) {x : Name} {s : List ℕ} {c c1 : At} → 0 < l → Gives name s c (ok (x, c1)) → known x ys ≡ true → Gives (names l ys) s c (refused 6)
+names-twice : (l : ℕ) (ys : List Name) {x : Name} {s : List ℕ} {c c1 : At} → 0 < l → Gives name s c (ok (x, c1)) → known x ys ≡ true → Gives (names l ys) s c (refused equalNames)
 unfolding names
 names-twice zero ys {x = x} h g e = absurd (omega arith)
 names-twice (suc l) ys {x = x} h g e = then _ g (stop _ (fail-old x ys e))
@@ -183,14 +184,14 @@ module _ {n : ℕ} {s : List ℕ} {c d : Cursor} {k : ℕ} (m : NamesMid n s c d
   pub names-stop : {x : ℕ} → k < n → Gives name s (at d) (refused x) → Gives (names n []) s (at c) (refused x)
   names-stop h g = m .goes _ (names-short (n - k) _ (omega arith) g)
 
-  pub names-old : {e : Cursor} → k < n → Named s d e → known (nameAt s (d .pos)) (namesAt s k (c .pos)) ≡ true → Gives (names n []) s (at c) (refused 6)
+  pub names-old : {e : Cursor} → k < n → Named s d e → known (nameAt s (d .pos)) (namesAt s k (c .pos)) ≡ true → Gives (names n []) s (at c) (refused equalNames)
   names-old h x z = m .goes _ (names-twice (n - k) _ (omega arith) (x .reads) z)
 
   pub names-done : n ≤ k → k ≤ n → NamedAll n s c d
   names-done h l =
       let e : n ≡ k = omega arith in
       let f : namesAt s n (c .pos) ≡ namesAt s k (c .pos) = ap (λ (x : ℕ). namesAt s x (c .pos)) e in
-      record { reads = rw f (m .goes _ (names-end (n - k) (namesAt s k (c .pos)) (omega arith))); moved = m .moved; fine = m .fine }
+      record { reads = rw f (m .goes _ (names-end (n - k) (namesAt s k (c .pos)) (omega arith))); place = m .place ∙ ap (λ (x : ℕ). endAt s x (c .pos)) (sym e); moved = m .moved; fine = m .fine }
 
 pub names-start : (n : ℕ) (s : List ℕ) (c : Cursor) → Fine s c → NamesMid n s c c 0
 unfolding namesAt endAt

@@ -50,6 +50,7 @@ pub record NamesOne (s : List ℕ) (c : Cursor) (st : Step) : Type 0 where
 -- n names are read
 pub record NamedAll (n : ℕ) (s : List ℕ) (c c' : Cursor) : Type 0 where
   pub reads : Gives (names n []) s (at c) (ok (namesAt s n (c .pos), at c'))
+  pub place : c' .pos ≡ endAt s n (c .pos)
   pub moved : Moved 0 0 c c'
   pub fine : Fine s c'
 

@@ -18,13 +18,21 @@ use bits::refusal::EQUAL_NAMES;
 // The bits of a name's flag and length together.
 const HEADER_BITS: usize = 7;
 
-// Where the name at q ends.
-fn after(s: &[u8], q: usize) -> usize
+// Where the name at q ends, and the next one begins.
+pub fn after(s: &[u8], q: usize) -> usize
     requires { ⌜ (length (now s) ≤ mostBytes) × (q + 7 ≤ byteBits * length (now s)) ⌝ }
     ensures { λ r. ⌜ r ≡ nextName (now (s .entry)) q ⌝ }
 {
     let l = bits::peek(s, q + FLAG_BITS, NAME_LENGTH_BITS) as usize;
     q + HEADER_BITS + CHAR_BITS * (l + 1)
+}
+
+// Is the name at q global?
+pub fn is_global(s: &[u8], q: usize) -> bool
+    requires { ⌜ (length (now s) ≤ mostBytes) × (q + 7 ≤ byteBits * length (now s)) ⌝ }
+    ensures { λ r. ⌜ r ≡ nameAt (now (s .entry)) q .isGlobal ⌝ }
+{
+    bits::peek(s, q, FLAG_BITS) == 1
 }
 
 // Are the names at p and q the same? Flag and length first, then characters.

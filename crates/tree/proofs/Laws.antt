@@ -18,8 +18,8 @@ use Rattle.bits.specs.Reads.{Gives, Fine, Took, at}
 use Rattle.bits.specs.declared.Cursor.{Cursor}
 use Rattle.bits.specs.declared.Step.{Step}
 use Rattle.bits.specs.declared.Step.the-variants.{Next, Refused}
-use Rattle.bits.proofs.Gives.{then, stop, done}
-use Rattle.names.specs.Names.{namesAt, NamedAll}
+use Rattle.bits.proofs.Gives.{then, stop, done, after}
+use Rattle.names.specs.Names.{namesAt, endAt, NamedAll}
 use Rattle.nodes.specs.Builds.{listR, Built, heldB, countB}
 use Rattle.nodes.specs.Width.{width}
 use Rattle.nodes.specs.Holds.{HoldsB}
@@ -29,7 +29,7 @@ use Rattle.nodes.proofs.Table.{agree-refl, agree-part, agree-trans, moved-b, gr
 use Rattle.tree.specs.declared.Sizes.{Sizes}
 use Rattle.tree.specs.declared.SizeAnswer.{SizeAnswer}
 use Rattle.tree.specs.declared.SizeAnswer.the-variants.{Sized, Refused as No}
-use Rattle.tree.specs.Files.{lineWord, HoldsL, no-line, a-line, Lined, LinesMid, LinesRead, Filed, FileRead, Treed, TreeRead, start, widths, sized, sizeRes}
+use Rattle.tree.specs.Files.{lineWord, HoldsL, no-line, a-line, Lined, LinesMid, LinesRead, Filed, FileRead, Treed, TreeRead, start, origin, widths, Headed, HeadRead, Placed, sized, sizeRes}
 
 -- ---- the end
 
@@ -133,13 +133,13 @@ not-lined h e = rw e at (h .here)
 
 -- ---- the file
 
-pub is-one : {a n : ℕ} {s : List ℕ} {c : At} → a ≡ 1 → Gives (demand (eqb a 1) n) s c (ok (n, c))
+pub is-one : {a n : ℕ} {s : List ℕ} {c : At} → a ≡ form → Gives (demand (eqb a form) n) s c (ok (n, c))
 unfolding demand pure
-is-one {a} h = record { is = rw (eq-eqb a 1 h) }
+is-one {a} h = record { is = rw (eq-eqb a form h) }
 
-pub not-one : {a n : ℕ} {s : List ℕ} {c : At} → (a ≡ 1 → ⊥) → Gives (demand (eqb a 1) n) s c (refused n)
+pub not-one : {a n : ℕ} {s : List ℕ} {c : At} → (a ≡ form → ⊥) → Gives (demand (eqb a form) n) s c (refused n)
 unfolding demand refuse
-not-one {a} h = record { is = rw (ne-eqb a 1 h) }
+not-one {a} h = record { is = rw (ne-eqb a form h) }
 
 pub names-length : (s : List ℕ) (n p : ℕ) → length (namesAt s n p) ≡ n
 unfolding namesAt
@@ -166,55 +166,86 @@ no-lines : {l n : ℕ} {s : List ℕ} {c : At} → l ≡ 0 → Gives (demand (lt
 unfolding demand refuse
 no-lines {l} h = record { is = rw (le-ltb 0 l (omega arith)) }
 
-pub head-1 : {s : List ℕ} {x : ℕ} → Gives (bits 8) s start (refused x) → Gives file s start (refused x)
+pub head-1 : {s : List ℕ} {x : ℕ} → Gives (bits headBits) s start (refused x) → Gives file s start (refused x)
 unfolding file
 head-1 g = stop _ g
 
-pub head-2 : {s : List ℕ} {f : ℕ} {c1 : At} → Gives (bits 8) s start (ok (f, c1)) → (f ≡ 1 → ⊥) → Gives file s start (refused otherForm)
+pub head-2 : {s : List ℕ} {f : ℕ} {c1 : At} → Gives (bits headBits) s start (ok (f, c1)) → (f ≡ form → ⊥) → Gives file s start (refused otherForm)
 unfolding file
 head-2 g h = then _ g (stop _ (not-one h))
 
-pub head-3 : {s : List ℕ} {f : ℕ} {c1 : At} {x : ℕ} → Gives (bits 8) s start (ok (f, c1)) → f ≡ 1 → Gives (bits 8) s c1 (refused x) → Gives file s start (refused x)
+pub head-3 : {s : List ℕ} {f : ℕ} {c1 : At} {x : ℕ} → Gives (bits headBits) s start (ok (f, c1)) → f ≡ form → Gives (bits headBits) s c1 (refused x) → Gives file s start (refused x)
 unfolding file
 head-3 g h a = then _ g (then _ (is-one h) (stop _ a))
 
-pub head-4 : {s : List ℕ} {f l : ℕ} {c1 c2 : At} → Gives (bits 8) s start (ok (f, c1)) → f ≡ 1 → Gives (bits 8) s c1 (ok (l, c2)) → l ≡ 0 → Gives file s start (refused zeroLines)
+pub head-4 : {s : List ℕ} {f l : ℕ} {c1 c2 : At} → Gives (bits headBits) s start (ok (f, c1)) → f ≡ form → Gives (bits headBits) s c1 (ok (l, c2)) → l ≡ 0 → Gives file s start (refused zeroLines)
 unfolding file
 head-4 g h a b = then _ g (then _ (is-one h) (then _ a (stop _ (no-lines b))))
 
-pub head-5 : {s : List ℕ} {f l : ℕ} {c1 c2 : At} {x : ℕ} → Gives (bits 8) s start (ok (f, c1)) → f ≡ 1 → Gives (bits 8) s c1 (ok (l, c2)) → (l ≡ 0 → ⊥) → Gives (bits 8) s c2 (refused x) → Gives file s start (refused x)
+pub head-5 : {s : List ℕ} {f l : ℕ} {c1 c2 : At} {x : ℕ} → Gives (bits headBits) s start (ok (f, c1)) → f ≡ form → Gives (bits headBits) s c1 (ok (l, c2)) → (l ≡ 0 → ⊥) → Gives (bits nameBits) s c2 (refused x) → Gives file s start (refused x)
 unfolding file
 head-5 g h a b e = then _ g (then _ (is-one h) (then _ a (then _ (some-lines b) (stop _ e))))
 
-pub head-6 : {s : List ℕ} {f l n : ℕ} {c1 c2 c3 : At} {res : Res (Tree × At)} → Gives (bits 8) s start (ok (f, c1)) → f ≡ 1 → Gives (bits 8) s c1 (ok (l, c2)) → (l ≡ 0 → ⊥) → Gives (bits 8) s c2 (ok (n, c3)) → Gives (body l n) s c3 res → Gives file s start res
+behind-head : (l n : ℕ) {s : List ℕ} {f : ℕ} {c1 c2 c3 : At} {res : Res (Tree × At)} → Gives (bits headBits) s start (ok (f, c1)) → f ≡ form → Gives (bits headBits) s c1 (ok (l, c2)) → (l ≡ 0 → ⊥) → Gives (bits nameBits) s c2 (ok (n, c3)) → Gives (body l n) s c3 res → Gives file s start res
 unfolding file
-head-6 g h a b e r = then _ g (then _ (is-one h) (then _ a (then _ (some-lines b) (then _ e r))))
+behind-head l n g h a b e r = then _ g (then _ (is-one h) (then _ a (then _ (some-lines b) (then _ e r))))
+
+at-counts : {l l' n n' : ℕ} {s : List ℕ} {c : At} {res : Res (Tree × At)} → l ≡ l' → n ≡ n' → Gives (body l n) s c res → Gives (body l' n') s c res
+at-counts e f g = rw (← e, ← f) g
+
+pub headed : {s : List ℕ} {f l n : ℕ} {c1 c2 c3 : Cursor} → Took (bits headBits) s origin 0 0 256 f c1 → f ≡ form → Took (bits headBits) s c1 0 0 256 l c2 → (l ≡ 0 → ⊥) → Took (bits nameBits) s c2 0 0 256 n c3 → Headed s (l + 256 * n) c3
+headed {l = l} {n = n} a h b k d =
+    let x = after headBits (a .reads) in
+    let y = after headBits (b .reads) in
+    let z = after nameBits (d .reads) in
+    let u = a .moved in
+    let v = b .moved in
+    let w = d .moved in
+    let p = b .small in
+    let q = d .small in
+    record {
+      goes = λ res g. behind-head l n (a .reads) h (b .reads) k (d .reads) (at-counts (omega arith) (omega arith) g);
+      small = omega arith;
+      place = omega arith;
+      nodes = omega arith;
+      statements = omega arith;
+      sections = omega arith;
+      strings = omega arith;
+      chars = omega arith;
+      fine = d .fine;
+    }
 
 held-at : {t ls s : List ℕ} {m k i i' k' j j' : ℕ} {xs : List Block} → i ≡ i' → j ≡ j' → HoldsL t ls s m k i xs k' j → HoldsL t ls s m k i' xs k' j'
 held-at p q h = rw (← p, ← q) h
 
-pub filed : {s t ls : List ℕ} {n l w : ℕ} {c3 c4 c5 c6 : Cursor} → c3 .nodes ≡ 0 → c3 .statements ≡ 0 → c3 .sections ≡ 0 → c3 .strings ≡ 0 → c3 .chars ≡ 0 → l < 256 → NamedAll n s c3 c4 → Lined n l s t ls c4 c5 → Took fill s c5 0 0 10 w c6
-    → ((res : Res (Tree × At)) → Gives (body l n) s (at c3) res → Gives file s start res) → Filed s t ls (l + 256 * n) c6
+placed : (s : List ℕ) (n p : ℕ) → p ≡ 24 → endAt s n p ≤ byteBits * length s → Placed s (namesAt s n p)
+placed s n p e h =
+    let u = names-length s n p in
+    record { are = rw (u, e) refl; inside = rw (u, ← e) h }
+
+pub filed : {s t ls : List ℕ} {v w : ℕ} {c3 c4 c5 c6 : Cursor} → Headed s v c3 → NamedAll (v / 256) s c3 c4 → Lined (v / 256) (v % 256) s t ls c4 c5 → Took fill s c5 0 0 10 w c6 → Filed s t ls v c6
 unfolding body
-filed {s = s} {n = n} {l = l} {c3 = c3} {c4 = c4} {c5 = c5} {c6 = c6} a b h d e f x y z g =
+filed {s = s} {v = v} {c3 = c3} {c4 = c4} {c5 = c5} {c6 = c6} h x y z =
     let p = x .moved in
     let q = y .counts in
     let r = z .moved in
-    let u = names-length s n (c3 .pos) in
-    let v = y .many-lines in
+    let f = x .fine in
+    let u = names-length s (v / 256) (c3 .pos) in
+    let l = y .many-lines in
     let i : c4 .nodes ≡ 0 = omega arith in
     let j : c5 .nodes ≡ c6 .nodes = omega arith in
     record {
-      val = record { names = namesAt s n (c3 .pos); lines = y .val };
-      reads = g _ (then _ (x .reads) (then _ (y .reads) (then _ (z .reads) done)));
-      holds = rw (u, v) (held-at i j (y .holds));
+      val = record { names = namesAt s (v / 256) (c3 .pos); lines = y .val };
+      reads = h .goes _ (then _ (x .reads) (then _ (y .reads) (then _ (z .reads) done)));
+      holds = rw (u, l) (held-at i j (y .holds));
+      names = placed s (v / 256) (c3 .pos) (h .place) (rw (← x .place) (f .inside));
       nodes = omega arith;
       statements = omega arith;
       sections = omega arith;
       strings = omega arith;
       chars = omega arith;
       few = omega arith;
-      both = rw (u, v);
+      both = rw (u, l) (omega arith);
     }
 
 pub treed : {s t ls : List ℕ} {v : ℕ} {c : Cursor} → Filed s t ls v c → length s ≤ mostBytes → Treed s t ls (record { lines = v % 256; names = v / 256; statements = c .statements; nodes = c .nodes; strings = c .strings; characters = c .chars })
@@ -224,7 +255,13 @@ treed {s = s} {v = v} {c = c} f h =
     let m = f .few in
     let a : v % 256 ≡ length (f .val .lines) = omega arith in
     let b : v / 256 ≡ length (f .val .names) = omega arith in
-    record { val = f .val; parses = parse-ok s (f .val) (at c) h (f .reads); holds = f .holds; size-is = rw (a, b, f .statements, f .nodes, f .strings, f .chars) }
+    record { val = f .val; parses = parse-ok s (f .val) (at c) h (f .reads); holds = f .holds; names = f .names; size-is = rw (a, b, f .statements, f .nodes, f .strings, f .chars) }
+
+pub head-ok : {s : List ℕ} {v : ℕ} {c : Cursor} {st : Step} → HeadRead s st → st ≡ Next v c → Headed s v c
+head-ok h e = rw e at (h .here)
+
+pub head-no : {s : List ℕ} {x : ℕ} {st : Step} → HeadRead s st → st ≡ Refused x → Gives file s start (refused x)
+head-no h e = rw e at (h .here)
 
 pub file-ok : {s t ls : List ℕ} {v : ℕ} {c : Cursor} {st : Step} → FileRead s t ls st → st ≡ Next v c → Filed s t ls v c
 file-ok h e = rw e at (h .here)

@@ -1,17 +1,19 @@
 -- What the steps that read lines and the whole file give: they refuse as the readers of rules do, or the tables hold what those read.
 use mathlib.Core.Path.{_≡_}
 use mathlib.Core.List.{List, [], _∷_}
-use Prim.Native.Nat.{ℕ, zero, suc, _+_, _-_, _*_, _≤_, _<_}
+use Prim.Native.Nat.{ℕ, zero, suc, _+_, _-_, _*_, _/_, _%_, _≤_, _<_}
 use lib.ListN.{length, getD}
+use Rattle.rules.specs.Constants.{byteBits}
 use Rattle.rules.specs.Bits.{Res, refused, ok}
-use Rattle.rules.specs.Tree.{Block, Tree, ofLines}
-use Rattle.rules.specs.Parse.{At, many, file, parse, lineBlock}
+use Rattle.rules.specs.Tree.{Name, Block, Tree, ofLines}
+use Rattle.rules.specs.Parse.{At, many, body, file, parse, lineBlock}
 use Rattle.rules.specs.Operations.{sizeOf}
 use Rattle.rules.specs.Operations as O
 use Rattle.bits.specs.Reads.{Gives, Fine, at}
 use Rattle.bits.specs.declared.Cursor.{Cursor}
 use Rattle.bits.specs.declared.Step.{Step}
 use Rattle.bits.specs.declared.Step.the-variants.{Next, Refused}
+use Rattle.names.specs.Names.{namesAt, endAt}
 use Rattle.nodes.specs.Builds.{Agree, Counted}
 use Rattle.nodes.specs.Width.{width}
 use Rattle.nodes.specs.Holds.{HoldsB}
@@ -60,18 +62,47 @@ pub record LinesMid (n total : ℕ) (s t ls : List ℕ) (c c' : Cursor) (k : ℕ
   pub after : c .nodes ≤ c' .nodes
   pub fine : Fine s c'
 
+-- before the first bit
+abbrev pub origin : Cursor
+origin = record { pos = 0; nodes = 0; statements = 0; sections = 0; strings = 0; chars = 0 }
+
 abbrev pub start : At
-start = record { pos = 0; nodes = 0 }
+start = at origin
 
 -- a tree is held from node 0 on
 abbrev pub HoldsTree : List ℕ → List ℕ → List ℕ → Tree → ℕ → Type 0
 HoldsTree s t ls x j = HoldsL t ls s (length (x .names)) 0 0 (x .lines) (length (x .lines)) j
+
+-- the head is read: v is its lines and names, and what stands behind it is the body of the file
+pub record Headed (s : List ℕ) (v : ℕ) (c : Cursor) : Type 0 where
+  pub goes : (res : Res (Tree × At)) → Gives (body (v % 256) (v / 256)) s (at c) res → Gives file s start res
+  pub small : v < 65536
+  pub place : c .pos ≡ 24
+  pub nodes : c .nodes ≡ 0
+  pub statements : c .statements ≡ 0
+  pub sections : c .sections ≡ 0
+  pub strings : c .strings ≡ 0
+  pub chars : c .chars ≡ 0
+  pub fine : Fine s c
+
+abbrev pub HeadAt : List ℕ → Step → Type 0
+HeadAt s (Next v c) = Headed s v c
+HeadAt s (Refused k) = Gives file s start (refused k)
+
+pub record HeadRead (s : List ℕ) (st : Step) : Type 0 where
+  pub here : HeadAt s st
+
+-- the names of the tree stand in the file, from behind the head
+pub record Placed (s : List ℕ) (x : List Name) : Type 0 where
+  pub are : x ≡ namesAt s (length x) 24
+  pub inside : endAt s (length x) 24 ≤ byteBits * length s
 
 -- the whole file is read; v is its lines and names
 pub record Filed (s t ls : List ℕ) (v : ℕ) (c : Cursor) : Type 0 where
   pub val : Tree
   pub reads : Gives file s start (ok (val, at c))
   pub holds : HoldsTree s t ls val (c .nodes)
+  pub names : Placed s (val .names)
   pub nodes : c .nodes ≡ ofLines (val .lines) .nodes
   pub statements : c .statements ≡ ofLines (val .lines) .statements
   pub sections : c .sections ≡ widths (val .lines)
@@ -100,6 +131,7 @@ pub record Treed (s t ls : List ℕ) (z : Sizes) : Type 0 where
   pub val : Tree
   pub parses : parse s ≡ ok val
   pub holds : HoldsTree s t ls val (z .nodes)
+  pub names : Placed s (val .names)
   pub size-is : sized z ≡ sizeOf val
 
 abbrev pub TreeAt : List ℕ → List ℕ → List ℕ → SizeAnswer → Type 0

@@ -10,7 +10,7 @@ ghost use Rattle.rules.specs.Parse.{fill as fillS};
 ghost use Rattle.rules.specs.Operations.{size as sizeS};
 ghost use Rattle.bits.specs.Reads.{Fine, Takes};
 ghost use Rattle.nodes.specs.Builds.{Ready};
-ghost use Rattle.tree.specs.Files.{LinesRead, FileRead, TreeRead, sizeRes};
+ghost use Rattle.tree.specs.Files.{LinesRead, HeadRead, FileRead, TreeRead, sizeRes};
 use bits::Cursor;
 use bits::Step;
 use bits::limits::BYTE_BITS;
@@ -25,6 +25,9 @@ use bits::refusal::LEFT_OVER;
 use bits::refusal::OTHER_FORM;
 use bits::refusal::TOO_LONG;
 use bits::refusal::ZERO_LINES;
+
+// Lines and names are counted below this.
+const HEAD_VALUES: u64 = 256;
 
 // What is counted of a tree.
 pub struct Sizes {
@@ -79,10 +82,10 @@ fn read_lines(s: &[u8], t: &mut [u64], ls: &mut [u64], c: Cursor, names: u64, li
     Step::Next(0, d)
 }
 
-// The file, behind the test of its length. A step answers one number: here lines and names, each below 256.
-fn read_file(s: &[u8], t: &mut [u64], ls: &mut [u64]) -> Step
-    requires { ⌜ (length (now s) ≤ mostBytes) × ((mostNodes ≤ length (now t)) × (mostLines ≤ length (now ls))) ⌝ }
-    ensures { λ r. ⌜ FileRead (now (s .entry)) (now (t .exit)) (now (ls .exit)) r ⌝ }
+// Form, lines and names. A step answers one number: here lines and names, each below 256.
+fn read_head(s: &[u8]) -> Step
+    requires { ⌜ length (now s) ≤ mostBytes ⌝ }
+    ensures { λ r. ⌜ HeadRead (now (s .entry)) r ⌝ }
 {
     let c = Cursor {
         pos: 0,
@@ -110,19 +113,33 @@ fn read_file(s: &[u8], t: &mut [u64], ls: &mut [u64]) -> Step
     let Step::Next(names, c3) = r2 else {
         return r2;
     };
-    let r3 = names::read_names(s, c3, names as usize);
-    let Step::Next(_, c4) = r3 else {
+    Step::Next(lines + HEAD_VALUES * names, c3)
+}
+
+// The file, behind the test of its length; answers what its head does.
+fn read_file(s: &[u8], t: &mut [u64], ls: &mut [u64]) -> Step
+    requires { ⌜ (length (now s) ≤ mostBytes) × ((mostNodes ≤ length (now t)) × (mostLines ≤ length (now ls))) ⌝ }
+    ensures { λ r. ⌜ FileRead (now (s .entry)) (now (t .exit)) (now (ls .exit)) r ⌝ }
+{
+    let r = read_head(s);
+    let Step::Next(head, c) = r else {
+        return r;
+    };
+    let lines = head % HEAD_VALUES;
+    let names = head / HEAD_VALUES;
+    let r1 = names::read_names(s, c, names as usize);
+    let Step::Next(_, c1) = r1 else {
+        return r1;
+    };
+    let r2 = read_lines(s, t, ls, c1, names, lines as usize);
+    let Step::Next(_, c2) = r2 else {
+        return r2;
+    };
+    let r3 = fill(s, c2);
+    let Step::Next(_, c3) = r3 else {
         return r3;
     };
-    let r4 = read_lines(s, t, ls, c4, names, lines as usize);
-    let Step::Next(_, c5) = r4 else {
-        return r4;
-    };
-    let r5 = fill(s, c5);
-    let Step::Next(_, c6) = r5 else {
-        return r5;
-    };
-    Step::Next(lines + 256 * names, c6)
+    Step::Next(head, c3)
 }
 
 // The tree of a file in lent tables, and its size; or the number that refuses it.
@@ -136,8 +153,8 @@ pub fn read_tree(s: &[u8], t: &mut [u64], ls: &mut [u64]) -> SizeAnswer
     let r = read_file(s, t, ls);
     match r {
         Step::Next(v, c) => SizeAnswer::Sized(Sizes {
-            lines: v % 256,
-            names: v / 256,
+            lines: v % HEAD_VALUES,
+            names: v / HEAD_VALUES,
             statements: c.statements,
             nodes: c.nodes,
             strings: c.strings,
