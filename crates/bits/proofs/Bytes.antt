@@ -1,12 +1,11 @@
 -- A field read by whole bytes: the bits of one byte are a part of it, and a field is its parts end to end. Assumes nothing.
-use mathlib.Core.Path.{_≡_, refl, sym, _∙_, ap}
+use mathlib.Core.Path.{_≡_, sym, _∙_}
 use mathlib.Core.List.{List}
 use Prim.Native.Nat.{ℕ, zero, suc, _+_, _-_, _*_, _/_, _%_, _^_, _<_, _≤_}
 use native.Mathlib.Omega.{arith}
-use native.Mathlib.Numerals.{add-one}
 use native.Mathlib.Nat.{add-mul, one-mul, lt-of-lt-of-le}
 use lib.Bits.{bitAnd, and-mask}
-use lib.ListN.{length, getD}
+use lib.ListN.{getD}
 use lib.Pow.{pow-add, pow-mono, shr-shr, mod-pow-add, shl-exact, ones-lt}
 use Rattle.rules.specs.Constants.{byteBits}
 use Rattle.rules.specs.Bits.{bit, spelled}

@@ -2,7 +2,7 @@
 use mathlib.Core.Path.{_≡_, refl, sym, _∙_, ap}
 use mathlib.Core.List.{List, [], _∷_}
 use mathlib.Core.Bool.{Bool, true, false}
-use Prim.Native.Nat.{ℕ, zero, suc, _+_, _-_, _*_, _^_, _<_, _≤_}
+use Prim.Native.Nat.{ℕ, zero, suc, _+_, _*_, _^_, _<_, _≤_}
 use native.Mathlib.Omega.{arith}
 use native.Mathlib.Numerals.{add-one}
 use borrow.Author.Tests.{lt-ltb, le-ltb, leb-true, leb-false, ltb-true, ltb-false}
@@ -19,7 +19,7 @@ use Rattle.bits.specs.declared.Field.the-variants.{Value, Short}
 use Rattle.bits.specs.declared.Cursor.{Cursor}
 use Rattle.bits.specs.declared.Step.{Step}
 use Rattle.bits.specs.declared.Step.the-variants.{Next, Refused}
-use Rattle.bits.proofs.Bits.{Inside, inside, field-in, field-out}
+use Rattle.bits.proofs.Bits.{inside, field-in, field-out}
 
 pub done : {A : Type 0} {a : A} {s : List ℕ} {c : At} → Gives (pure a) s c (ok (a, c))
 unfolding pure

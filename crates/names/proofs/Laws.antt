@@ -11,14 +11,14 @@ use lib.ListN.{length}
 use Rattle.rules.specs.Refusal.{equalNames}
 use Rattle.rules.specs.Bits.{Res, refused, ok, bit, spelled, isOne}
 use Rattle.rules.specs.Tree.{Name}
-use Rattle.rules.specs.Parse.{Reader, At, name, names, known, sameName, sameChars, demand, bits, many, pure, refuse, _>>=_}
-use Rattle.bits.specs.Reads.{Gives, Moved, Fine, Took, Skips, at, charsAt}
+use Rattle.rules.specs.Parse.{At, name, names, known, sameName, sameChars, demand, bits, pure, refuse}
+use Rattle.bits.specs.Reads.{Gives, Fine, Took, Skips, at, charsAt}
 use Rattle.bits.specs.declared.Step.{Step}
 use Rattle.bits.specs.declared.Step.the-variants.{Next, Refused}
 use Rattle.bits.specs.declared.Cursor.{Cursor}
+use Rattle.names.specs.Names.{charsOf, nameAt, nextName, namesAt, endAt, Named, NamedAll, NamesMid, NamesOne, NamesAll}
 use Rattle.bits.proofs.Bits.{spelled-lt}
 use Rattle.bits.proofs.Gives.{then, stop, done, spells, after}
-use Rattle.names.specs.Names.{charsOf, nameAt, nextName, namesAt, endAt, Named, NamedAll, NamesMid, NamesOne, NamesAll}
 
 spelled-suc : (s : List ℕ) (w p : ℕ) → spelled s (suc w) p ≡ bit s p * 2 ^ w + spelled s w (suc p)
 unfolding spelled

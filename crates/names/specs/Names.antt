@@ -1,8 +1,7 @@
 -- The names of a file, where they stand, and what the steps that read them give. Nothing is assumed.
 use mathlib.Core.Path.{_≡_}
 use mathlib.Core.List.{List, [], _∷_}
-use Prim.Native.Nat.{ℕ, zero, suc, _+_, _-_, _*_, _≤_}
-use lib.ListN.{length}
+use Prim.Native.Nat.{ℕ, zero, suc, _+_, _-_, _*_}
 use Rattle.rules.specs.Constants.{flagBits, nameLengthBits, charBits}
 use Rattle.rules.specs.Bits.{Res, refused, ok, spelled, isOne}
 use Rattle.rules.specs.Tree.{Name}

@@ -8,10 +8,10 @@ use Rattle.rules.specs.Constants.{exprKindBits, stmtKindBits}
 use Rattle.rules.specs.Refusal.{unassigned}
 use Rattle.rules.specs.Bits.{Res, refused, ok}
 use Rattle.rules.specs.Tree.{Expr, Block}
-use Rattle.rules.specs.Parse.{Reader, At, expr, stmt, bits, begin, refuse, exprKinds, stmtKinds, binopOf, unopOf, gotoOf, iteOf, stepOf, assignOf}
+use Rattle.rules.specs.Parse.{At, expr, stmt, bits, begin, refuse, exprKinds, stmtKinds, binopOf, unopOf, gotoOf, iteOf, stepOf, assignOf}
 use Rattle.bits.specs.Reads.{Gives, beginR}
-use Rattle.bits.proofs.Gives.{then, stop, assoc, inject-refused, not-deep}
 use Rattle.nodes.specs.Builds.{leafR, exprArm, stmtArm}
+use Rattle.bits.proofs.Gives.{then, stop, assoc, inject-refused, not-deep}
 
 pub expr-stop : (n d : ℕ) {s : List ℕ} {c : At} {x : ℕ} → Gives (beginR exprKindBits d) s c (refused x) → Gives (expr n d) s c (refused x)
 unfolding expr refuse beginR exprArm

@@ -11,9 +11,8 @@ use Rattle.rules.specs.Bits.{isOne}
 use Rattle.rules.specs.Tree.{Assignop, Expr, Block, goto, ite, assign, end}
 use Rattle.rules.specs.Parse.{assignops}
 use Rattle.nodes.specs.Words.{wordOf, iteWord, iteKind, gotoKind, stepKind, assignKind}
-use Rattle.nodes.specs.Width.{orOne, width}
 use Rattle.nodes.specs.Holds.{HoldsE, HoldsB, Flag, Lists, at-end, at-goto, at-ite, at-step, at-assign}
-use Rattle.nodes.proofs.Words.{Fits, Twice, twice, kind-of}
+use Rattle.nodes.proofs.Words.{twice, kind-of}
 use Rattle.nodes.proofs.Exprs.{Same, op-small, pick-same, start-at, one}
 
 -- ---- the kind of the first statement

@@ -1,11 +1,11 @@
 -- Laws of `Builds`: an answer opened, a node closed, a step passed on. Assumes nothing.
-use mathlib.Core.Path.{_≡_, refl, sym, _∙_, ap}
-use mathlib.Core.List.{List, [], _∷_}
-use Prim.Native.Nat.{ℕ, zero, suc, _+_, _*_, _-_, _≤_, _<_}
+use mathlib.Core.Path.{_≡_, refl, ap}
+use mathlib.Core.List.{List}
+use Prim.Native.Nat.{ℕ, zero, suc, _+_, _<_}
 use native.Mathlib.Omega.{arith}
-use lib.ListN.{length, getD, set}
+use lib.ListN.{length, getD}
 use Rattle.rules.specs.Bits.{Res, refused, ok, isOne}
-use Rattle.rules.specs.Constants.{charBits, flagBits, numberBits}
+use Rattle.rules.specs.Constants.{flagBits, numberBits}
 use Rattle.rules.specs.Refusal.{unassigned}
 use Rattle.rules.specs.Tree.{Expr, Block, number, ofExpr, ofBlock, statement, node, both, none}
 use Rattle.rules.specs.Parse.{Reader, At, bits, nameOf, pure, refuse, _>>=_, incdecOf, stepOf, numberOf, signed}
@@ -13,13 +13,12 @@ use Rattle.bits.specs.Reads.{Gives, Fine, at, charsAt}
 use Rattle.bits.specs.declared.Cursor.{Cursor}
 use Rattle.bits.specs.declared.Step.{Step}
 use Rattle.bits.specs.declared.Step.the-variants.{Next, Refused}
-use Rattle.bits.proofs.Gives.{then, stop, done, Seen, said, see, unique}
-use Rattle.bits.proofs.Gives.{refuses as refuses-at}
 use Rattle.nodes.specs.Words.{incdecKind, stepKind}
 use Rattle.nodes.specs.Width.{width}
-use Rattle.nodes.specs.Builds.{Agree, Counted, Built, Builds, Closed, Adds, leafR, flagR, heldF, countF, heldE, countE, heldS, countS, before, beforeStmt}
-use Rattle.nodes.specs.Holds.{HoldsE, at-incdec}
-use Rattle.nodes.proofs.Table.{agree-part, agree-trans, set-below, set-above, set-here}
+use Rattle.nodes.specs.Builds.{Agree, Built, Builds, Closed, leafR, flagR, heldF, countF, heldE, countE, heldS, countS, before}
+use Rattle.nodes.specs.Holds.{at-incdec}
+use Rattle.bits.proofs.Gives.{then, stop, done, Seen, said, see, unique, refuses as refuses-at}
+use Rattle.nodes.proofs.Table.{agree-trans, set-below, set-above, set-here}
 use Rattle.nodes.proofs.Puts.{put-step}
 
 module _ {A : Type 0} {r : Reader A} {H : List ℕ → ℕ → ℕ → A → ℕ → Type 0} {Q : A → Cursor → Cursor → Type 0} {s t t' : List ℕ} {b c : Cursor} {st : Step} where

@@ -2,7 +2,7 @@
 use mathlib.Core.Path.{_≡_, refl, sym, _∙_, ap}
 use mathlib.Core.Bool.{Bool}
 use mathlib.Core.List.{List, [], _∷_}
-use mathlib.Core.Option.{Option, some, none}
+use mathlib.Core.Option.{some}
 use Prim.Native.Nat.{ℕ, zero, suc, _+_, _*_, _≤_, _<_, _%_}
 use native.Mathlib.Omega.{arith}
 use lib.IntN.{ℤ}
@@ -14,7 +14,7 @@ use Rattle.rules.specs.Parse.{binops, unops, signed}
 use Rattle.bits.specs.Reads.{charsAt}
 use Rattle.nodes.specs.Words.{wordOf, binopKind, unopKind, incdecKind, identKind, numberKind, stringKind}
 use Rattle.nodes.specs.Holds.{HoldsE, Flag, at-binop, at-unop, at-incdec, at-ident, at-number, at-string}
-use Rattle.nodes.proofs.Words.{Fits, Twice, twice, kind-of}
+use Rattle.nodes.proofs.Words.{twice, kind-of}
 
 -- ---- the kind
 

@@ -4,7 +4,7 @@ use mathlib.Core.Path.{_≡_, ap}
 use mathlib.Core.List.{List}
 use Prim.Native.Nat.{ℕ, _+_, _*_, _-_, _≤_, _<_}
 use native.Mathlib.Omega.{arith}
-use Rattle.rules.specs.Tree.{Expr, Block, ite, ofExpr, ofBlock, statement, node, both}
+use Rattle.rules.specs.Tree.{Expr, Block, ite, ofBlock, statement, node, both}
 use Rattle.bits.specs.Reads.{Fine, Moved}
 use Rattle.bits.specs.declared.Cursor.{Cursor}
 use Rattle.nodes.specs.Width.{width, orOne}

@@ -1,7 +1,7 @@
 -- A list of statements: its count, its statements one by one, and what is known midway. Assumes nothing.
 use mathlib.Core.Path.{_≡_, refl}
 use mathlib.Core.List.{List}
-use Prim.Native.Nat.{ℕ, zero, suc, _+_, _-_, _≤_, _<_}
+use Prim.Native.Nat.{ℕ, zero, suc, _-_, _≤_, _<_}
 use native.Mathlib.Omega.{arith}
 use native.Mathlib.Numerals.{sub-one}
 use Rattle.rules.specs.Constants.{listBits}
@@ -10,10 +10,10 @@ use Rattle.rules.specs.Tree.{Block, end, ofBlock, none}
 use Rattle.rules.specs.Parse.{Reader, At, stmt, block, bits, _>>=_}
 use Rattle.bits.specs.Reads.{Gives, Took, Fine, at}
 use Rattle.bits.specs.declared.Cursor.{Cursor}
-use Rattle.bits.proofs.Gives.{then, stop, done, assoc}
 use Rattle.nodes.specs.Width.{width}
 use Rattle.nodes.specs.Builds.{listR, heldS, countS, heldB, countB, Built, Midway}
-use Rattle.nodes.specs.Holds.{HoldsB, at-end}
+use Rattle.nodes.specs.Holds.{at-end}
+use Rattle.bits.proofs.Gives.{then, stop, done, assoc}
 use Rattle.nodes.proofs.Table.{agree-refl, agree-part, agree-trans}
 
 -- a list within a statement

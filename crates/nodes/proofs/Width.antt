@@ -1,8 +1,7 @@
 -- Sections are at most four a statement.
-use mathlib.Core.Path.{_≡_, refl}
-use Prim.Native.Nat.{ℕ, suc, _+_, _*_, _≤_, _<_, max}
+use Prim.Native.Nat.{ℕ, _+_, _*_, _≤_, _<_}
 use native.Mathlib.Omega.{arith}
-use Rattle.rules.specs.Tree.{Block, goto, ite, assign, end, ofBlock, ofExpr, statement, node, both, none}
+use Rattle.rules.specs.Tree.{Block, goto, ite, assign, end, ofBlock, statement, node, both, none}
 use Rattle.nodes.specs.Width.{width, orOne}
 
 pub record OrOne (n : ℕ) : Type 0 where

@@ -1,13 +1,13 @@
 -- What a step that fills the node table gives: it refuses as a reader of rules does, or what that reader reads stands in the table.
 use mathlib.Core.Path.{_≡_}
 use mathlib.Core.List.{List, [], _∷_}
-use Prim.Native.Nat.{ℕ, _+_, _-_, _*_, _≤_, _<_}
+use Prim.Native.Nat.{ℕ, _+_, _-_, _≤_, _<_}
 use lib.ListN.{length, getD, set}
-use Rattle.rules.specs.Constants.{mostNodes, listBits, flagBits, mostDepth}
+use Rattle.rules.specs.Constants.{mostNodes, listBits, flagBits}
 use Rattle.rules.specs.Refusal.{unassigned}
-use Rattle.rules.specs.Bits.{Res, refused, ok}
+use Rattle.rules.specs.Bits.{refused, ok}
 use Rattle.rules.specs.Tree.{Tally, Expr, Block, ofExpr, ofBlock}
-use Rattle.rules.specs.Parse.{Reader, At, expr, stmt, block, bits, nameOf, pure, refuse, _>>=_, exprKinds, stmtKinds, incdecOf, identOf, numberOf, stringOf}
+use Rattle.rules.specs.Parse.{Reader, At, expr, stmt, block, bits, nameOf, pure, refuse, exprKinds, stmtKinds, incdecOf, identOf, numberOf, stringOf, _>>=_}
 use Rattle.bits.specs.Reads.{Gives, at, Fine}
 use Rattle.bits.specs.declared.Cursor.{Cursor}
 use Rattle.bits.specs.declared.Step.{Step}

@@ -9,8 +9,7 @@ use lib.IntN.{ℤ}
 use lib.ListN.{length, getD, getElem?}
 use Rattle.rules.specs.Constants.{numberBits, charBits, byteBits}
 use Rattle.rules.specs.Bits.{spelled, isOne}
-use Rattle.rules.specs.Tree.{Binop, Unop, Assignop, Expr, Block}
-use Rattle.rules.specs.Tree.{binop, unop, ident, number, string, goto, ite, assign, end}
+use Rattle.rules.specs.Tree.{Binop, Unop, Assignop, Expr, Block, binop, unop, ident, number, string, goto, ite, assign, end}
 use Rattle.rules.specs.Parse.{binops, unops, assignops, signed}
 use Rattle.bits.specs.Reads.{charsAt}
 use Rattle.nodes.specs.Words.{wordOf, iteWord, binopKind, unopKind, incdecKind, identKind, numberKind, stringKind, gotoKind, stepKind, assignKind}

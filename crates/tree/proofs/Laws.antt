@@ -1,35 +1,31 @@
 -- Laws of lines and of the whole file. Assumes nothing.
 use mathlib.Core.Path.{_≡_, refl, sym, _∙_, ap}
-use mathlib.Core.Bool.{Bool, true, false}
 use mathlib.Core.List.{List, [], _∷_}
 use Prim.Native.Nat.{ℕ, zero, suc, _+_, _-_, _*_, _/_, _%_, _<_, _≤_}
 use native.Mathlib.Omega.{arith}
-use native.Mathlib.Numerals.{add-one, sub-one}
+use native.Mathlib.Numerals.{sub-one}
 use borrow.Author.Tests.{eq-eqb, ne-eqb, lt-ltb, le-ltb, le-leb, lt-leb}
-use lib.Dec.{eqb, ltb, leb}
+use lib.Dec.{eqb, ltb}
 use lib.ListN.{length, getD, set}
 use Rattle.rules.specs.Constants.{mostBytes, mostDepth, form, headBits, nameBits, byteBits}
 use Rattle.rules.specs.Refusal.{otherForm, zeroLines, leftOver, tooLong}
 use Rattle.rules.specs.Bits.{Res, refused, ok, spelled}
-use Rattle.rules.specs.Tree.{Name, Block, Tree, ofBlock, ofLines, both, none}
-use Rattle.rules.specs.Parse.{Reader, At, bits, names, many, fill, lineBlock, body, file, parse, demand, pure, refuse, _>>=_}
+use Rattle.rules.specs.Tree.{Block, Tree, ofLines, both, none}
+use Rattle.rules.specs.Parse.{Reader, At, bits, names, many, fill, lineBlock, body, file, parse, demand, pure, refuse}
 use Rattle.rules.specs.Operations.{size, sizeOf}
 use Rattle.bits.specs.Reads.{Gives, Fine, Took, at}
 use Rattle.bits.specs.declared.Cursor.{Cursor}
 use Rattle.bits.specs.declared.Step.{Step}
 use Rattle.bits.specs.declared.Step.the-variants.{Next, Refused}
-use Rattle.bits.proofs.Gives.{then, stop, done, after}
 use Rattle.names.specs.Names.{namesAt, endAt, NamedAll}
 use Rattle.nodes.specs.Builds.{listR, Built, heldB, countB}
-use Rattle.nodes.specs.Width.{width}
-use Rattle.nodes.specs.Holds.{HoldsB}
+use Rattle.tree.specs.declared.SizeAnswer.{SizeAnswer}
+use Rattle.tree.specs.declared.SizeAnswer.the-variants.{Sized, Refused as No}
+use Rattle.tree.specs.Files.{lineWord, HoldsL, no-line, a-line, Lined, LinesMid, LinesRead, Filed, FileRead, Treed, TreeRead, start, origin, widths, Headed, HeadRead, Placed, sizeRes}
+use Rattle.bits.proofs.Gives.{then, stop, done, after}
 use Rattle.nodes.proofs.Exprs.{Same}
 use Rattle.nodes.proofs.Blocks.{one-b, begin-at}
 use Rattle.nodes.proofs.Table.{agree-refl, agree-part, agree-trans, moved-b, grows-b, set-below, set-here}
-use Rattle.tree.specs.declared.Sizes.{Sizes}
-use Rattle.tree.specs.declared.SizeAnswer.{SizeAnswer}
-use Rattle.tree.specs.declared.SizeAnswer.the-variants.{Sized, Refused as No}
-use Rattle.tree.specs.Files.{lineWord, HoldsL, no-line, a-line, Lined, LinesMid, LinesRead, Filed, FileRead, Treed, TreeRead, start, origin, widths, Headed, HeadRead, Placed, sized, sizeRes}
 
 -- ---- the end
 
@@ -273,6 +269,23 @@ pub size-from : {s t ls : List ℕ} {r : SizeAnswer} → TreeRead s t ls r → s
 unfolding size
 size-from {s = s} {r = Sized z} h = rw (h .here .parses, size) (ap ok (h .here .size-is))
 size-from {s = s} {r = No k} h = rw (h .here, size)
+
+-- ---- a line by its word
+
+pub record IsLine (t ls s : List ℕ) (m k i : ℕ) (xs : List Block) (k' j : ℕ) : Type 0 where
+  pub b : Block
+  pub bs : List Block
+  pub n : ℕ
+  pub last : ℕ
+  pub is : xs ≡ (b ∷ bs)
+  pub few : n < 64
+  pub word : getD ls k 0 ≡ lineWord n i
+  pub list : HoldsB t s m n i b last
+  pub others : HoldsL t ls s m (k + 1) last bs k' j
+
+pub is-line : {t ls s : List ℕ} {m k i k' j : ℕ} {xs : List Block} → k < k' → HoldsL t ls s m k i xs k' j → IsLine t ls s m k i xs k' j
+is-line h (no-line p q) = absurd (omega arith)
+is-line h (a-line n f w b p l) = record { b = _; bs = _; n = n; last = _; is = refl; few = f; word = w; list = b; others = rw (← p) l }
 
 -- ---- at most one: lines that the tables hold from one line and node to the same line are the same
 lines-le : {t ls s : List ℕ} {m k i k' j : ℕ} {xs : List Block} → HoldsL t ls s m k i xs k' j → k ≤ k'

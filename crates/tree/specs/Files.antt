@@ -1,7 +1,7 @@
 -- What the steps that read lines and the whole file give: they refuse as the readers of rules do, or the tables hold what those read.
 use mathlib.Core.Path.{_≡_}
 use mathlib.Core.List.{List, [], _∷_}
-use Prim.Native.Nat.{ℕ, zero, suc, _+_, _-_, _*_, _/_, _%_, _≤_, _<_}
+use Prim.Native.Nat.{ℕ, _+_, _-_, _*_, _/_, _%_, _≤_, _<_}
 use lib.ListN.{length, getD}
 use Rattle.rules.specs.Constants.{byteBits}
 use Rattle.rules.specs.Bits.{Res, refused, ok}

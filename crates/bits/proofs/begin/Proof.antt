@@ -1,16 +1,12 @@
+-- `bits::begin` meets its contract. Assumes nothing.
 use Prim.Native.Nat.{_+_}
 use mathlib.Core.Path.{refl}
 use native.Mathlib.Omega.{arith}
-use Rattle.bits.proofs.Gives.{begin-deep, begin-many, begun}
-use Rattle.bits.specs.Reads.{beginR}
 use borrow.Author.Needs.{needs}
+use Rattle.bits.proofs.Gives.{begin-deep, begin-many, begun}
 use Rattle.bits.proofs.begin.Statement.{statement}
 use Rattle.bits.proofs.begin.Tie as tie
-use Rattle.bits.proofs.begin.Reads as reads
-use Rattle.bits.proofs.begin.Lts as lts
-use Rattle.bits.proofs.take.Reads as take-reads
 
--- src/lib.rt:99:9
 returns : tie.Need-returns
 returns c = record { here = begin-deep _ _ (c .if1 .taken) }
 

@@ -1,12 +1,10 @@
+-- `bits::part` meets its contract. Assumes nothing.
 use Prim.Native.Nat.{_<_}
-use Rattle.bits.proofs.Bytes.{masked, some-ones}
 use native.Mathlib.Omega.{arith}
 use borrow.Author.Needs.{needs}
+use Rattle.bits.proofs.Bytes.{masked, some-ones}
 use Rattle.bits.proofs.part.Statement.{statement}
 use Rattle.bits.proofs.part.Tie as tie
-use Rattle.bits.proofs.part.Reads as reads
-use Rattle.bits.proofs.part.Lts as lts
-use Rattle.bits.proofs.wide.Reads as wide-reads
 
 sub-low : tie.Need-sub-low
 sub-low c = search needs

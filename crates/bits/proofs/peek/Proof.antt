@@ -1,14 +1,11 @@
-use Rattle.bits.proofs.Bytes.{shifted, fits}
-use Rattle.rules.specs.Bits.{spelled}
+-- `bits::peek` meets its contract. Assumes nothing.
 use native.Mathlib.Omega.{arith}
-use mathlib.Core.Path.{_≡_, refl, _∙_}
-use Prim.Native.Nat.{_≤_, _<_, _-_, _*_, _+_, _^_}
+use mathlib.Core.Path.{_≡_, refl}
+use Prim.Native.Nat.{_≤_, _-_, _+_}
+use Rattle.rules.specs.Bits.{spelled}
+use Rattle.bits.proofs.Bytes.{shifted, fits}
 use Rattle.bits.proofs.peek.Statement.{statement}
 use Rattle.bits.proofs.peek.Tie as tie
-use Rattle.bits.proofs.peek.Reads as reads
-use Rattle.bits.proofs.peek.Lts as lts
-use Rattle.bits.proofs.chunk.Reads as chunk-reads
-use Rattle.bits.proofs.part.Reads as part-reads
 
 abbrev Inv-loop : tie.InvT-loop
 Inv-loop s at w v₀ k₀ v k = (k ≤ w) × (v ≡ spelled s k at)

@@ -1,11 +1,9 @@
+-- `names::is_global` meets its contract. Assumes nothing.
+use borrow.Author.Needs.{needs}
 use Rattle.rules.specs.Bits.{isOne}
 use Rattle.names.specs.Names.{nameAt}
-use borrow.Author.Needs.{needs}
 use Rattle.names.proofs.is_global.Statement.{statement}
 use Rattle.names.proofs.is_global.Tie as tie
-use Rattle.names.proofs.is_global.Reads as reads
-use Rattle.names.proofs.is_global.Lts as lts
-use Rattle.bits.proofs.peek.Reads as peek-reads
 
 peek-requires : tie.Need-peek-requires
 peek-requires c κs = search needs

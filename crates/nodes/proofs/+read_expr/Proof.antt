@@ -1,22 +1,18 @@
-use Rattle.rules.specs.Parse.{binopOf, unopOf}
-use Rattle.nodes.proofs.Table.{agree-part, agree-trans, moved}
-use Rattle.nodes.proofs.Arms.{expr-stop, arm-binop, arm-unop, arm-leaf}
-use Rattle.nodes.specs.Holds.{at-binop, at-unop}
-use Rattle.nodes.specs.Builds.{before}
-use Rattle.bits.proofs.Gives.{picked, op-ok, op-no, not-deep}
-use Rattle.rules.specs.Parse.{binops, unops}
-use Rattle.rules.specs.Tree.{both}
+-- `nodes::read_expr` meets its contract. Assumes nothing.
 use borrow.Author.Needs.{needs}
-use Rattle.nodes.proofs.Table.{agree-refl}
-use Rattle.nodes.proofs.Built.{sealed, refuses, built, unbuilt, behind}
-use Rattle.bits.proofs.Gives.{then, stop, done, took, failed, skipped, not-skipped, named, spells}
-use Rattle.rules.specs.Tree.{Expr, node, none, ofExpr}
 use native.Mathlib.Omega.{arith}
-use Prim.Native.Nat.{_+_, _*_, _<_, _≤_}
-use mathlib.Core.Path.{_≡_, refl, sym}
-use Prim.Native.Nat.{ℕ, _<_}
+use Prim.Native.Nat.{_<_, ℕ}
+use mathlib.Core.Path.{refl}
 use borrow.Fn.Kinds.{In}
 use borrow.Fn.PlainCycle.{Measures, is, falls, and}
+use Rattle.rules.specs.Parse.{binopOf, unopOf, binops, unops}
+use Rattle.nodes.specs.Holds.{at-binop, at-unop}
+use Rattle.nodes.specs.Builds.{before}
+use Rattle.rules.specs.Tree.{both, node, ofExpr}
+use Rattle.nodes.proofs.Table.{agree-part, agree-trans, moved}
+use Rattle.nodes.proofs.Arms.{expr-stop, arm-binop, arm-unop, arm-leaf}
+use Rattle.bits.proofs.Gives.{picked, op-ok, op-no, not-deep, then, stop, done, took, failed}
+use Rattle.nodes.proofs.Built.{sealed, refuses, built, unbuilt, behind}
 use Rattle.nodes.proofs.read_expr.Reads as read-expr
 use Rattle.nodes.proofs.read_expr.Kinds as read-expr-kinds
 use Rattle.nodes.proofs.+read_expr.Lts-read_expr as read-expr-lts

@@ -1,27 +1,21 @@
-use mathlib.Core.Path.{_∙_}
+-- `nodes::read_list` and `nodes::read_stmt` meet their contracts. Assumes nothing.
+use mathlib.Core.Path.{_∙_, _≡_, refl}
+use borrow.Author.Needs.{needs}
+use lib.ListN.{length}
+use Prim.Native.Nat.{_+_, _*_, _<_, ℕ}
+use native.Mathlib.Omega.{arith}
+use borrow.Fn.Kinds.{In}
+use borrow.Fn.PlainCycle.{Measures, is, falls, and}
+use Rattle.nodes.specs.Builds.{Midway, listR}
+use Rattle.rules.specs.Parse.{iteOf}
+use Rattle.rules.specs.Tree.{node}
 use Rattle.nodes.proofs.Arms.{stmt-stop, arm-goto, arm-ite, arm-incdec, arm-assign, arm-none}
 use Rattle.nodes.proofs.Lists.{list-then, list-stop, list-built, list-stops, mid-start, mid-more}
 use Rattle.nodes.proofs.Puts.{put-ite}
 use Rattle.nodes.proofs.Ite.{ite-spans, ite-lists, ite-fine, ite-adds}
-use Rattle.nodes.proofs.Built.{incdec-stmt}
-use Rattle.nodes.specs.Builds.{Midway}
-use borrow.Author.Needs.{needs}
-use lib.ListN.{length}
+use Rattle.nodes.proofs.Built.{incdec-stmt, sealed, refuses, built, unbuilt, behind}
 use Rattle.nodes.proofs.Table.{agree-part, agree-trans, moved, moved-b}
-use Rattle.nodes.specs.Builds.{listR}
-use Rattle.rules.specs.Parse.{iteOf}
-use Rattle.rules.specs.Tree.{ofBlock, statement as statementS, both}
-use Prim.Native.Nat.{_-_}
-use Rattle.nodes.proofs.Table.{agree-refl}
-use Rattle.nodes.proofs.Built.{sealed, refuses, built, unbuilt, behind}
 use Rattle.bits.proofs.Gives.{then, stop, done, took, failed, not-deep}
-use Rattle.rules.specs.Tree.{Expr, node, none, ofExpr}
-use native.Mathlib.Omega.{arith}
-use Prim.Native.Nat.{_+_, _*_, _<_, _≤_}
-use mathlib.Core.Path.{_≡_, refl, sym}
-use Prim.Native.Nat.{ℕ, _<_}
-use borrow.Fn.Kinds.{In}
-use borrow.Fn.PlainCycle.{Measures, is, falls, and}
 use Rattle.nodes.proofs.read_list.Reads as read-list
 use Rattle.nodes.proofs.read_list.Kinds as read-list-kinds
 use Rattle.nodes.proofs.+read_list+read_stmt.Lts-read_list as read-list-lts

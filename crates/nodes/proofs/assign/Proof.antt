@@ -1,26 +1,16 @@
-use Rattle.nodes.specs.Width.{width}
-use Rattle.nodes.proofs.Puts.{put-assign}
-use Rattle.nodes.proofs.Table.{agree-part, agree-trans, moved}
-use Rattle.nodes.specs.Builds.{beforeStmt}
-use Rattle.bits.proofs.Gives.{picked, op-ok, op-no}
-use Rattle.rules.specs.Parse.{assignops, gotoOf, assignOf}
-use Rattle.rules.specs.Tree.{ofBlock, statement as statementS, both}
-use Prim.Native.Nat.{_-_}
-use Rattle.nodes.proofs.Table.{agree-refl}
-use Rattle.nodes.proofs.Built.{sealed, refuses, built, unbuilt, behind}
-use Rattle.bits.proofs.Gives.{then, stop, done, took, failed, skipped, not-skipped, named, spells}
-use Rattle.rules.specs.Tree.{Expr, node, none, ofExpr}
+-- `nodes::assign` meets its contract. Assumes nothing.
 use native.Mathlib.Omega.{arith}
-use Prim.Native.Nat.{_+_, _*_, _<_, _≤_}
-use mathlib.Core.Path.{_≡_, refl, sym}
+use mathlib.Core.Path.{refl}
 use borrow.Author.Needs.{needs}
+use Rattle.nodes.specs.Width.{width}
+use Rattle.rules.specs.Parse.{assignops, assignOf}
+use Rattle.rules.specs.Tree.{ofBlock, statement as statementS, both, node}
+use Rattle.nodes.proofs.Puts.{put-assign}
+use Rattle.nodes.proofs.Table.{agree-part, moved}
+use Rattle.bits.proofs.Gives.{picked, op-ok, op-no, then, stop, done, took, failed, named}
+use Rattle.nodes.proofs.Built.{sealed, refuses, built, unbuilt}
 use Rattle.nodes.proofs.assign.Statement.{statement}
 use Rattle.nodes.proofs.assign.Tie as tie
-use Rattle.nodes.proofs.assign.Reads as reads
-use Rattle.nodes.proofs.assign.Lts as lts
-use Rattle.bits.proofs.below.Reads as below-reads
-use Rattle.nodes.proofs.close.Reads as close-reads
-use Rattle.nodes.proofs.read_expr.Reads as read-expr-reads
 
 below-requires : tie.Need-below-requires
 below-requires c κs = search needs

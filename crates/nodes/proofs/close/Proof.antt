@@ -1,10 +1,8 @@
+-- `nodes::close` meets its contract. Assumes nothing.
 use mathlib.Core.Path.{refl}
 use borrow.Author.Needs.{needs}
 use Rattle.nodes.proofs.close.Statement.{statement}
 use Rattle.nodes.proofs.close.Tie as tie
-use Rattle.nodes.proofs.close.Reads as reads
-use Rattle.nodes.proofs.close.Lts as lts
-use Rattle.nodes.proofs.word.Reads as word-reads
 
 word-requires : tie.Need-word-requires
 word-requires c κs = search needs

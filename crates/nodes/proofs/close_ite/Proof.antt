@@ -1,16 +1,11 @@
-use Rattle.nodes.proofs.Width.{or-one-lt}
+-- `nodes::close_ite` meets its contract. Assumes nothing.
 use native.Mathlib.Omega.{arith}
 use mathlib.Core.Path.{refl}
 use Prim.Native.Nat.{_-_}
-use Rattle.nodes.proofs.Width.{or-one}
-use Rattle.nodes.specs.Width.{orOne}
 use borrow.Author.Needs.{needs}
+use Rattle.nodes.proofs.Width.{or-one-lt, or-one}
 use Rattle.nodes.proofs.close_ite.Statement.{statement}
 use Rattle.nodes.proofs.close_ite.Tie as tie
-use Rattle.nodes.proofs.close_ite.Reads as reads
-use Rattle.nodes.proofs.close_ite.Lts as lts
-use Rattle.nodes.proofs.or_one.Reads as or-one-reads
-use Rattle.nodes.proofs.word.Reads as word-reads
 
 sub-or-one : tie.Need-sub-or-one
 sub-or-one c = search needs

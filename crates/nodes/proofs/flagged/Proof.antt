@@ -1,19 +1,13 @@
-use Rattle.nodes.specs.Builds.{flagR}
-use Rattle.nodes.proofs.Table.{agree-refl}
-use Rattle.nodes.proofs.Built.{sealed, refuses, built, unbuilt, behind}
-use Rattle.bits.proofs.Gives.{then, stop, done, took, failed, skipped, not-skipped, named, spells}
-use Rattle.rules.specs.Tree.{Expr, node, none, ofExpr}
+-- `nodes::flagged` meets its contract. Assumes nothing.
 use native.Mathlib.Omega.{arith}
-use Prim.Native.Nat.{_+_, _*_, _<_, _≤_}
-use mathlib.Core.Path.{_≡_, refl, sym}
 use borrow.Author.Needs.{needs}
+use Rattle.nodes.specs.Builds.{flagR}
+use Rattle.rules.specs.Tree.{node, none}
+use Rattle.nodes.proofs.Table.{agree-refl}
+use Rattle.nodes.proofs.Built.{sealed, refuses}
+use Rattle.bits.proofs.Gives.{then, stop, done, took, failed, named}
 use Rattle.nodes.proofs.flagged.Statement.{statement}
 use Rattle.nodes.proofs.flagged.Tie as tie
-use Rattle.nodes.proofs.flagged.Reads as reads
-use Rattle.nodes.proofs.flagged.Lts as lts
-use Rattle.bits.proofs.below.Reads as below-reads
-use Rattle.bits.proofs.take.Reads as take-reads
-use Rattle.nodes.proofs.close.Reads as close-reads
 
 take-requires : tie.Need-take-requires
 take-requires c κs = search needs

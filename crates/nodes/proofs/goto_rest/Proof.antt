@@ -1,25 +1,15 @@
-use Rattle.nodes.specs.Width.{width}
-use Rattle.nodes.proofs.Puts.{put-goto}
-use Rattle.nodes.proofs.Table.{agree-part, agree-trans, moved}
-use Rattle.nodes.specs.Builds.{beforeStmt}
-use Rattle.bits.proofs.Gives.{picked, op-ok, op-no}
-use Rattle.rules.specs.Parse.{assignops, gotoOf, assignOf}
-use Rattle.rules.specs.Tree.{ofBlock, statement as statementS, both}
-use Prim.Native.Nat.{_-_}
-use Rattle.nodes.proofs.Table.{agree-refl}
-use Rattle.nodes.proofs.Built.{sealed, refuses, built, unbuilt, behind}
-use Rattle.bits.proofs.Gives.{then, stop, done, took, failed, skipped, not-skipped, named, spells}
-use Rattle.rules.specs.Tree.{Expr, node, none, ofExpr}
+-- `nodes::goto_rest` meets its contract. Assumes nothing.
 use native.Mathlib.Omega.{arith}
-use Prim.Native.Nat.{_+_, _*_, _<_, _≤_}
-use mathlib.Core.Path.{_≡_, refl, sym}
 use borrow.Author.Needs.{needs}
+use Rattle.nodes.specs.Width.{width}
+use Rattle.rules.specs.Parse.{gotoOf}
+use Rattle.rules.specs.Tree.{ofBlock, statement as statementS, both, node}
+use Rattle.nodes.proofs.Puts.{put-goto}
+use Rattle.nodes.proofs.Table.{agree-part, moved}
+use Rattle.bits.proofs.Gives.{then, stop, done}
+use Rattle.nodes.proofs.Built.{sealed, refuses, built, unbuilt}
 use Rattle.nodes.proofs.goto_rest.Statement.{statement}
 use Rattle.nodes.proofs.goto_rest.Tie as tie
-use Rattle.nodes.proofs.goto_rest.Reads as reads
-use Rattle.nodes.proofs.goto_rest.Lts as lts
-use Rattle.nodes.proofs.close.Reads as close-reads
-use Rattle.nodes.proofs.read_expr.Reads as read-expr-reads
 
 read-expr-requires : tie.Need-read-expr-requires
 read-expr-requires c κs = search needs

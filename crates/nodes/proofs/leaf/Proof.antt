@@ -1,14 +1,9 @@
-use Rattle.nodes.proofs.Built.{incdec-leaf, no-leaf}
-use Rattle.nodes.specs.Builds.{leafR}
+-- `nodes::leaf` meets its contract. Assumes nothing.
 use borrow.Author.Needs.{needs}
+use Rattle.nodes.specs.Builds.{leafR}
+use Rattle.nodes.proofs.Built.{incdec-leaf, no-leaf}
 use Rattle.nodes.proofs.leaf.Statement.{statement}
 use Rattle.nodes.proofs.leaf.Tie as tie
-use Rattle.nodes.proofs.leaf.Reads as reads
-use Rattle.nodes.proofs.leaf.Lts as lts
-use Rattle.nodes.proofs.flagged.Reads as flagged-reads
-use Rattle.nodes.proofs.ident.Reads as ident-reads
-use Rattle.nodes.proofs.number.Reads as number-reads
-use Rattle.nodes.proofs.string.Reads as string-reads
 
 flagged-requires : tie.Need-flagged-requires
 flagged-requires c κs = search needs

@@ -1,21 +1,16 @@
-use mathlib.Core.Path.{ap}
+-- `nodes::number` meets its contract. Assumes nothing.
+use mathlib.Core.Path.{ap, sym}
+use native.Mathlib.Omega.{arith}
+use borrow.Author.Needs.{needs}
 use Rattle.rules.specs.Parse.{signed}
 use Rattle.nodes.specs.Holds.{at-number}
 use Rattle.nodes.specs.Builds.{before}
+use Rattle.rules.specs.Tree.{node, none, ofExpr}
 use Rattle.nodes.proofs.Table.{agree-refl}
-use Rattle.nodes.proofs.Built.{number-from, sealed, refuses, built, unbuilt, behind}
-use Rattle.bits.proofs.Gives.{then, stop, done, took, failed, skipped, not-skipped, named, spells}
-use Rattle.rules.specs.Tree.{Expr, node, none, ofExpr}
-use native.Mathlib.Omega.{arith}
-use Prim.Native.Nat.{_+_, _*_, _<_, _≤_}
-use mathlib.Core.Path.{_≡_, refl, sym}
-use borrow.Author.Needs.{needs}
+use Rattle.nodes.proofs.Built.{number-from, sealed, refuses}
+use Rattle.bits.proofs.Gives.{then, stop, done, took, failed, spells}
 use Rattle.nodes.proofs.number.Statement.{statement}
 use Rattle.nodes.proofs.number.Tie as tie
-use Rattle.nodes.proofs.number.Reads as reads
-use Rattle.nodes.proofs.number.Lts as lts
-use Rattle.bits.proofs.take.Reads as take-reads
-use Rattle.nodes.proofs.close.Reads as close-reads
 
 take-requires : tie.Need-take-requires
 take-requires c κs = search needs

@@ -1,24 +1,16 @@
+-- `nodes::string` meets its contract. Assumes nothing.
+use native.Mathlib.Omega.{arith}
+use mathlib.Core.Path.{refl}
+use borrow.Author.Needs.{needs}
 use Rattle.rules.specs.Parse.{stringOf}
-use Rattle.bits.specs.Reads.{charsAt}
-use Rattle.nodes.proofs.Built.{chars-length}
-use lib.ListN.{length}
 use Rattle.nodes.specs.Holds.{at-string}
 use Rattle.nodes.specs.Builds.{before}
+use Rattle.rules.specs.Tree.{node, none, ofExpr}
+use Rattle.nodes.proofs.Built.{chars-length, sealed, refuses}
 use Rattle.nodes.proofs.Table.{agree-refl}
-use Rattle.nodes.proofs.Built.{sealed, refuses, built, unbuilt, behind}
-use Rattle.bits.proofs.Gives.{then, stop, done, took, failed, skipped, not-skipped, named, spells}
-use Rattle.rules.specs.Tree.{Expr, node, none, ofExpr}
-use native.Mathlib.Omega.{arith}
-use Prim.Native.Nat.{_+_, _*_, _<_, _≤_}
-use mathlib.Core.Path.{_≡_, refl, sym}
-use borrow.Author.Needs.{needs}
+use Rattle.bits.proofs.Gives.{then, stop, done, took, failed, skipped, not-skipped}
 use Rattle.nodes.proofs.string.Statement.{statement}
 use Rattle.nodes.proofs.string.Tie as tie
-use Rattle.nodes.proofs.string.Reads as reads
-use Rattle.nodes.proofs.string.Lts as lts
-use Rattle.bits.proofs.skip.Reads as skip-reads
-use Rattle.bits.proofs.take.Reads as take-reads
-use Rattle.nodes.proofs.close.Reads as close-reads
 
 take-requires : tie.Need-take-requires
 take-requires c κs = search needs

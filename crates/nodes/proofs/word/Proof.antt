@@ -1,10 +1,9 @@
+-- `nodes::word` meets its contract. Assumes nothing.
 use native.Mathlib.Omega.{arith}
-use Rattle.nodes.specs.Words.{wordOf}
 use borrow.Author.Needs.{needs}
+use Rattle.nodes.specs.Words.{wordOf}
 use Rattle.nodes.proofs.word.Statement.{statement}
 use Rattle.nodes.proofs.word.Tie as tie
-use Rattle.nodes.proofs.word.Reads as reads
-use Rattle.nodes.proofs.word.Lts as lts
 
 mul-result : tie.Need-mul-result
 mul-result c = search needs

@@ -1,17 +1,12 @@
-use Rattle.tree.proofs.Laws.{fill-long, fill-bits, fill-ok}
-use Rattle.tree.specs.Files.{LinesMid}
-use Rattle.bits.proofs.Gives.{then, stop, done, took, failed}
-use Rattle.rules.specs.Bits.{spelled}
+-- `tree::fill` meets its contract. Assumes nothing.
 use lib.ListN.{length}
 use native.Mathlib.Omega.{arith}
-use Prim.Native.Nat.{_+_, _*_, _-_, _<_, _≤_}
-use mathlib.Core.Path.{_≡_, refl, sym, _∙_, ap}
+use Prim.Native.Nat.{_*_, _-_, _<_, _≤_}
+use mathlib.Core.Path.{_≡_, sym, _∙_}
 use borrow.Author.Needs.{needs}
+use Rattle.tree.proofs.Laws.{fill-long, fill-bits, fill-ok}
 use Rattle.tree.proofs.fill.Statement.{statement}
 use Rattle.tree.proofs.fill.Tie as tie
-use Rattle.tree.proofs.fill.Reads as reads
-use Rattle.tree.proofs.fill.Lts as lts
-use Rattle.bits.proofs.peek.Reads as peek-reads
 
 mul-bits : tie.Need-mul-bits
 mul-bits c = search needs

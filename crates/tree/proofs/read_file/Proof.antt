@@ -1,18 +1,12 @@
+-- `tree::read_file` meets its contract. Assumes nothing.
+use native.Mathlib.Omega.{arith}
+use borrow.Author.Needs.{needs}
+use Rattle.rules.specs.Parse.{body}
 use Rattle.tree.proofs.Laws.{lined, not-lined, head-ok, head-no, filed}
 use Rattle.names.proofs.Laws.{named-ok, named-no}
 use Rattle.bits.proofs.Gives.{then, stop, took, failed}
-use Rattle.rules.specs.Parse.{body}
-use native.Mathlib.Omega.{arith}
-use Prim.Native.Nat.{_+_, _*_, _<_, _≤_}
-use borrow.Author.Needs.{needs}
 use Rattle.tree.proofs.read_file.Statement.{statement}
 use Rattle.tree.proofs.read_file.Tie as tie
-use Rattle.tree.proofs.read_file.Reads as reads
-use Rattle.tree.proofs.read_file.Lts as lts
-use Rattle.names.proofs.read_names.Reads as read-names-reads
-use Rattle.tree.proofs.fill.Reads as fill-reads
-use Rattle.tree.proofs.read_head.Reads as read-head-reads
-use Rattle.tree.proofs.read_lines.Reads as read-lines-reads
 
 read-head-requires : tie.Need-read-head-requires
 read-head-requires c κs = search needs

@@ -1,13 +1,10 @@
+-- `tree::read_head` meets its contract. Assumes nothing.
+use native.Mathlib.Omega.{arith}
+use borrow.Author.Needs.{needs}
 use Rattle.tree.proofs.Laws.{head-1, head-2, head-3, head-4, head-5, headed}
 use Rattle.bits.proofs.Gives.{took, failed}
-use native.Mathlib.Omega.{arith}
-use Prim.Native.Nat.{_+_, _*_, _<_, _≤_}
-use borrow.Author.Needs.{needs}
 use Rattle.tree.proofs.read_head.Statement.{statement}
 use Rattle.tree.proofs.read_head.Tie as tie
-use Rattle.tree.proofs.read_head.Reads as reads
-use Rattle.tree.proofs.read_head.Lts as lts
-use Rattle.bits.proofs.take.Reads as take-reads
 
 take-requires : tie.Need-take-requires
 take-requires c κs = search needs

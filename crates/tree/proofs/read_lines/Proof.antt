@@ -1,19 +1,14 @@
-use lib.ListN.{length-set}
-use Rattle.tree.proofs.Laws.{lines-start, lines-more, lines-stop, lines-done}
-use Rattle.nodes.proofs.Built.{built, unbuilt}
-use Rattle.tree.specs.Files.{LinesMid}
-use Rattle.bits.proofs.Gives.{then, stop, done, took, failed}
-use Rattle.rules.specs.Bits.{spelled}
-use lib.ListN.{length}
+-- `tree::read_lines` meets its contract. Assumes nothing.
+use lib.ListN.{length-set, length}
 use borrow.Author.Needs.{needs}
 use native.Mathlib.Omega.{arith}
-use Prim.Native.Nat.{_+_, _*_, _-_, _<_, _≤_}
-use mathlib.Core.Path.{_≡_, refl, sym, _∙_, ap}
+use Prim.Native.Nat.{_-_, _≤_}
+use mathlib.Core.Path.{_≡_, refl}
+use Rattle.tree.specs.Files.{LinesMid}
+use Rattle.tree.proofs.Laws.{lines-start, lines-more, lines-stop, lines-done}
+use Rattle.nodes.proofs.Built.{built, unbuilt}
 use Rattle.tree.proofs.read_lines.Statement.{statement}
 use Rattle.tree.proofs.read_lines.Tie as tie
-use Rattle.tree.proofs.read_lines.Reads as reads
-use Rattle.tree.proofs.read_lines.Lts as lts
-use Rattle.nodes.proofs.read_list.Reads as read-list-reads
 
 abbrev Inv-loop : tie.InvT-loop
 Inv-loop s t₀ ls₀ names lines d₀ k₀ t ls d k = (length t ≡ length t₀) × ((length ls ≡ length ls₀) × ((k ≤ lines) × (LinesMid names lines s t ls d₀ d k)))

@@ -1,17 +1,8 @@
-use Rattle.tree.proofs.Laws.{treed, file-ok, file-no, parse-long, parse-no}
-use Rattle.tree.specs.Files.{LinesMid}
-use Rattle.bits.proofs.Gives.{then, stop, done, took, failed}
-use Rattle.rules.specs.Bits.{spelled}
-use lib.ListN.{length}
-use native.Mathlib.Omega.{arith}
-use Prim.Native.Nat.{_+_, _*_, _-_, _<_, _≤_}
-use mathlib.Core.Path.{_≡_, refl, sym, _∙_, ap}
+-- `tree::read_tree` meets its contract. Assumes nothing.
 use borrow.Author.Needs.{needs}
+use Rattle.tree.proofs.Laws.{treed, file-ok, file-no, parse-long, parse-no}
 use Rattle.tree.proofs.read_tree.Statement.{statement}
 use Rattle.tree.proofs.read_tree.Tie as tie
-use Rattle.tree.proofs.read_tree.Reads as reads
-use Rattle.tree.proofs.read_tree.Lts as lts
-use Rattle.tree.proofs.read_file.Reads as read-file-reads
 
 returns : tie.Need-returns
 returns c =
