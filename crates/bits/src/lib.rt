@@ -132,14 +132,15 @@ pub fn begin(s: &[u8], c: Cursor, w: usize, more: usize, depth: usize) -> Step
     requires { ⌜ (Fine (now s) c) × ((w ≤ numberBits) × (more ≤ 1)) ⌝ }
     ensures { λ r. ⌜ Takes (beginR w depth) (now (s .entry)) c 1 more (2 ^ w) r ⌝ }
 {
+    let n = c.nodes;
     if depth == 0 {
         return Step::Refused(TOO_DEEP);
     }
-    if c.nodes >= MOST_NODES {
+    if n >= MOST_NODES {
         return Step::Refused(TOO_MANY_NODES);
     }
     let mut d = c;
-    d.nodes = c.nodes + 1;
+    d.nodes = n + 1;
     d.statements = c.statements + more;
     d.sections = c.sections + more;
     take(s, d, w)

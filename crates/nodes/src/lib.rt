@@ -3,6 +3,7 @@
 // Each reader is shown equal to that of `rules`: it refuses as that does, or the table holds what that reads (specs/Holds) and the
 // cursor has counted it. A caller owes a table of 2,048 words, fewer than 256 names and a cursor within the limits (`Ready`).
 pub mod kinds;
+pub mod unpack;
 
 ghost use mathlib.Core.Path.{_≡_};
 ghost use Prim.Native.Nat.{_≤_, _<_, _*_, _+_, _-_};

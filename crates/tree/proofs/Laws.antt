@@ -18,6 +18,7 @@ use Rattle.bits.specs.declared.Cursor.{Cursor}
 use Rattle.bits.specs.declared.Step.{Step}
 use Rattle.bits.specs.declared.Step.the-variants.{Next, Refused}
 use Rattle.names.specs.Names.{namesAt, endAt, NamedAll}
+use Rattle.nodes.specs.Holds.{HoldsB}
 use Rattle.nodes.specs.Builds.{listR, Built, heldB, countB}
 use Rattle.tree.specs.declared.SizeAnswer.{SizeAnswer}
 use Rattle.tree.specs.declared.SizeAnswer.the-variants.{Sized, Refused as No}
