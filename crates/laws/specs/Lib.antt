@@ -1,4 +1,5 @@
 pub mod Pack
 pub mod Words
+pub mod Success
 pub mod Match
 pub mod Table
