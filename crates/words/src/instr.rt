@@ -330,12 +330,7 @@ impl Instruction {
         requires { ⌜ op < 64 ⌝ }
         ensures { λ r. ⌜ r .0 ≡ insWord (Instr.ins₃ op fst snd thd) ⌝ }
     {
-        Instruction(
-            op * 288230376151711744
-                + fst as u64 * 4398046511104
-                + snd as u64 * 67108864
-                + thd as u64 * 1024,
-        )
+        Instruction((op << 58) + ((fst as u64) << 42) + ((snd as u64) << 26) + ((thd as u64) << 10))
     }
 
     pub fn jump_section_if(target: Section, test: NumReg) -> Instruction
