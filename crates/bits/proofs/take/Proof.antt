@@ -1,0 +1,30 @@
+use Rattle.bits.proofs.Gives.{then, stop, done, passes, fails, taken, short, begun, too-many}
+use borrow.Author.Needs.{needs}
+use Rattle.bits.proofs.take.Statement.{statement}
+use Rattle.bits.proofs.take.Tie as tie
+use Rattle.bits.proofs.take.Reads as reads
+use Rattle.bits.proofs.take.Lts as lts
+use Rattle.bits.proofs.read_field.Reads as read-field-reads
+
+-- src/lib.rt:69:30
+read-field-requires : tie.Need-read-field-requires
+read-field-requires c κs = search needs
+
+-- src/lib.rt:69:22
+enum-known-v : tie.Need-enum-known-v
+enum-known-v c = search needs
+
+-- src/lib.rt:70:9
+enum-told : tie.Need-enum-told
+enum-told c = search needs
+
+-- src/lib.rt:70:9
+returns : tie.Need-returns
+returns c = record { here = short _ _ _ _ (c .enum-told .given .1) (c .before .before .read-field .ensures) }
+
+-- src/lib.rt:65:1
+returns-2 : tie.Need-returns-2
+returns-2 c = record { here = taken _ _ _ _ _ _ (c .before .before .before .before .before .pre .0) (c .before .v .given .1) (c .before .before .before .read-field .ensures) }
+
+pub take-spec : {M : Type 1} → statement M
+take-spec = tie.close (tie.spec read-field-requires enum-known-v enum-told returns returns-2)
