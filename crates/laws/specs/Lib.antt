@@ -1,0 +1,4 @@
+pub mod Pack
+pub mod Words
+pub mod Match
+pub mod Table
