@@ -1,6 +1,6 @@
 -- A `match` on a number with keys and ranges, against a function of the number: the values at all the numbers of an arm are computed and compared
 -- as one list. Assumes nothing.
-use mathlib.Core.Path.{_≡_, refl, subst, sym}
+use mathlib.Core.Path.{_≡_}
 use mathlib.Core.Logic.{⊎-elim}
 use mathlib.Core.Bool.{Bool, true, false, _||_}
 use mathlib.Core.List.{List, [], _∷_, map}

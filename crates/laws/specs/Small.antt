@@ -1,6 +1,6 @@
 -- Instructions stay small, so that their words are read back: with another target, and after the removal of a section. Assumes nothing.
 use mathlib.Core.Bool.{Bool, true, false, cond}
-use Prim.Native.Nat.{ℕ, zero, suc, pred, _^_, _<_, _≤_}
+use Prim.Native.Nat.{ℕ, pred, _^_, _<_, _≤_}
 use native.Mathlib.Omega.{arith}
 use native.Mathlib.Nat.{pred-le}
 use lib.Dec.{ltb}

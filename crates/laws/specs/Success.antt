@@ -6,7 +6,6 @@ use native.Mathlib.Omega.{arith}
 use borrow.Author.Tests.{ne-eqb}
 use Rattle.rules.specs.Bits.{isOne}
 use Rattle.rules.specs.Constants.{mark}
-use Rattle.rules.specs.Word.{Run}
 use Rattle.rules.specs.Machine.{SectionOrLine, unfixed, section, line}
 use Rattle.rules.specs.Tables.{flag, kindOf, targetOf, successOf}
 use Rattle.laws.specs.Words.{RunSmall}

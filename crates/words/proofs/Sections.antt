@@ -7,7 +7,7 @@ use borrow.Author.Tests.{eq-eqb, ne-eqb}
 use Rattle.rules.specs.Bits.{isOne}
 use Rattle.rules.specs.Constants.{mark}
 use Rattle.rules.specs.Word.{Run, runWord, wordRun}
-use Rattle.rules.specs.Machine.{SectionOrLine, unfixed, section, line}
+use Rattle.rules.specs.Machine.{unfixed, section, line}
 use Rattle.rules.specs.Tables.{successOf}
 use Rattle.laws.specs.Words.{run-small}
 use Rattle.words.specs.Runs.{run}
