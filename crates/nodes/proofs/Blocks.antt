@@ -3,7 +3,7 @@ use mathlib.Core.Path.{_≡_, refl, sym, _∙_, ap}
 use mathlib.Core.Bool.{Bool}
 use mathlib.Core.List.{List}
 use mathlib.Core.Option.{some}
-use Prim.Native.Nat.{ℕ, _+_, _*_, _≤_, _<_, _%_}
+use Prim.Native.Nat.{ℕ, zero, suc, _+_, _*_, _≤_, _<_, _%_}
 use native.Mathlib.Omega.{arith}
 use lib.ListN.{length, getD, getElem?}
 use Rattle.rules.specs.Constants.{mostBytes}
@@ -17,14 +17,15 @@ use Rattle.nodes.proofs.Exprs.{Same, op-small, pick-same, start-at, one
 
 -- ---- the kind of the first statement
 
-unfoldable pub tag : Block → ℕ
-tag end = 0
-tag (goto e s) = gotoKind
-tag (ite e x y s) = iteKind
-tag (Block.incdec f x s) = stepKind
-tag (assign x o e s) = assignKind
+-- as the file numbers it; a word's is 8 more
+unfoldable tag : Block → ℕ
+tag (goto e s) = 0
+tag (ite e x y s) = 1
+tag (Block.incdec f x s) = 2
+tag (assign x o e s) = 3
+tag end = 4
 
-pub kind-held : {t s : List ℕ} {m n i z : ℕ} {x : Block} → 0 < n → HoldsB t s m n i x z → getD t i 0 % 16 ≡ tag x
+kind-held : {t s : List ℕ} {m n i z : ℕ} {x : Block} → 0 < n → HoldsB t s m n i x z → getD t i 0 % 16 ≡ tag x + 8
 unfolding tag
 kind-held h (at-end p q) = absurd (omega arith)
 kind-held h (at-goto p w q e xs) = kind-of _ _ _ _ _ _ _ (omega arith) w
@@ -58,17 +59,6 @@ pub record IsGoto (t s : List ℕ) (m n i : ℕ) (x : Block) (z : ℕ) : Type 0 
   pub to : HoldsE t s m first e last
   pub others : HoldsB t s m k last rest z
 
-as-goto : {t s : List ℕ} {m n i z : ℕ} {x : Block} → HoldsB t s m n i x z → tag x ≡ gotoKind → IsGoto t s m n i x z
-unfolding tag
-as-goto (at-end p q) zz = absurd (omega arith)
-as-goto (at-goto p w q e xs) zz = record { e = _; rest = _; k = _; first = _; last = _; is = refl; count = p; word = w; next = q; to = e; others = xs }
-as-goto (at-ite a b v u p w f q e x y xs) zz = absurd (omega arith)
-as-goto (at-step b f x p q g xs) zz = absurd (omega arith)
-as-goto (at-assign x op o p f w k q e xs) zz = absurd (omega arith)
-
-pub is-goto : {t s : List ℕ} {m n i z : ℕ} {x : Block} → 0 < n → HoldsB t s m n i x z → getD t i 0 % 16 ≡ gotoKind → IsGoto t s m n i x z
-is-goto h b k = as-goto b (sym (kind-held h b) ∙ k)
-
 pub record IsIte (t s : List ℕ) (m n i : ℕ) (x : Block) (z : ℕ) : Type 0 where
   pub e : Expr
   pub th : Block
@@ -93,17 +83,6 @@ pub record IsIte (t s : List ℕ) (m n i : ℕ) (x : Block) (z : ℕ) : Type 0 w
   pub else : HoldsB t s m b third el last
   pub others : HoldsB t s m k last rest z
 
-as-ite : {t s : List ℕ} {m n i z : ℕ} {x : Block} → HoldsB t s m n i x z → tag x ≡ iteKind → IsIte t s m n i x z
-unfolding tag
-as-ite (at-end p q) zz = absurd (omega arith)
-as-ite (at-goto p w q e xs) zz = absurd (omega arith)
-as-ite (at-ite a b v u p w f q e x y xs) zz = record { e = _; th = _; el = _; rest = _; a = a; b = b; v = v; w = u; k = _; first = _; second = _; third = _; last = _; is = refl; count = p; word = w; lists = f; next = q; test = e; then = x; else = y; others = xs }
-as-ite (at-step b f x p q g xs) zz = absurd (omega arith)
-as-ite (at-assign x op o p f w k q e xs) zz = absurd (omega arith)
-
-pub is-ite : {t s : List ℕ} {m n i z : ℕ} {x : Block} → 0 < n → HoldsB t s m n i x z → getD t i 0 % 16 ≡ iteKind → IsIte t s m n i x z
-is-ite h b k = as-ite b (sym (kind-held h b) ∙ k)
-
 pub record IsStep (t s : List ℕ) (m n i : ℕ) (x : Block) (z : ℕ) : Type 0 where
   pub b : ℕ
   pub y : ℕ
@@ -114,17 +93,6 @@ pub record IsStep (t s : List ℕ) (m n i : ℕ) (x : Block) (z : ℕ) : Type 0 
   pub count : n ≡ k + 1
   pub flag : Flag stepKind m t i b y last
   pub others : HoldsB t s m k last rest z
-
-as-step : {t s : List ℕ} {m n i z : ℕ} {x : Block} → HoldsB t s m n i x z → tag x ≡ stepKind → IsStep t s m n i x z
-unfolding tag
-as-step (at-end p q) zz = absurd (omega arith)
-as-step (at-goto p w q e xs) zz = absurd (omega arith)
-as-step (at-ite a b v u p w f q e x y xs) zz = absurd (omega arith)
-as-step (at-step {xs = r} b f x p q g xs) zz = record { b = b; y = x; rest = _; k = _; last = _; is = ap (λ (y : Bool). Block.incdec y x r) (sym q); count = p; flag = g; others = xs }
-as-step (at-assign x op o p f w k q e xs) zz = absurd (omega arith)
-
-pub is-step : {t s : List ℕ} {m n i z : ℕ} {x : Block} → 0 < n → HoldsB t s m n i x z → getD t i 0 % 16 ≡ stepKind → IsStep t s m n i x z
-is-step h b k = as-step b (sym (kind-held h b) ∙ k)
 
 pub record IsAssign (t s : List ℕ) (m n i : ℕ) (x : Block) (z : ℕ) : Type 0 where
   pub y : ℕ
@@ -144,16 +112,39 @@ pub record IsAssign (t s : List ℕ) (m n i : ℕ) (x : Block) (z : ℕ) : Type 
   pub value : HoldsE t s m first e last
   pub others : HoldsB t s m k last rest z
 
-as-assign : {t s : List ℕ} {m n i z : ℕ} {x : Block} → HoldsB t s m n i x z → tag x ≡ assignKind → IsAssign t s m n i x z
+-- what is held where the file's kind is k
+abbrev AtKind : List ℕ → List ℕ → ℕ → ℕ → ℕ → Block → ℕ → ℕ → Type 0
+AtKind t s m n i x z zero = IsGoto t s m n i x z
+AtKind t s m n i x z (suc zero) = IsIte t s m n i x z
+AtKind t s m n i x z (suc (suc zero)) = IsStep t s m n i x z
+AtKind t s m n i x z (suc (suc (suc zero))) = IsAssign t s m n i x z
+AtKind t s m n i x z (suc (suc (suc (suc k)))) = ⊥
+
+seen : {t s : List ℕ} {m n i z : ℕ} {x : Block} → 0 < n → HoldsB t s m n i x z → AtKind t s m n i x z (tag x)
 unfolding tag
-as-assign (at-end p q) zz = absurd (omega arith)
-as-assign (at-goto p w q e xs) zz = absurd (omega arith)
-as-assign (at-ite a b v u p w f q e x y xs) zz = absurd (omega arith)
-as-assign (at-step b f x p q g xs) zz = absurd (omega arith)
-as-assign (at-assign x op o p f w k q e xs) zz = record { y = x; op = op; o = o; e = _; rest = _; k = _; first = _; last = _; is = refl; count = p; pick = f; word = w; known = k; next = q; value = e; others = xs }
+seen h (at-end p q) = absurd (omega arith)
+seen h (at-goto p w q e xs) = record { e = _; rest = _; k = _; first = _; last = _; is = refl; count = p; word = w; next = q; to = e; others = xs }
+seen h (at-ite a b v u p w f q e x y xs) = record { e = _; th = _; el = _; rest = _; a = a; b = b; v = v; w = u; k = _; first = _; second = _; third = _; last = _; is = refl; count = p; word = w; lists = f; next = q; test = e; then = x; else = y; others = xs }
+seen h (at-step {xs = r} b f x p q g xs) = record { b = b; y = x; rest = _; k = _; last = _; is = ap (λ (y : Bool). Block.incdec y x r) (sym q); count = p; flag = g; others = xs }
+seen h (at-assign x op o p f w k q e xs) = record { y = x; op = op; o = o; e = _; rest = _; k = _; first = _; last = _; is = refl; count = p; pick = f; word = w; known = k; next = q; value = e; others = xs }
+
+at-kind : {t s : List ℕ} {m n i z : ℕ} {x : Block} (k : ℕ) → 0 < n → HoldsB t s m n i x z → getD t i 0 % 16 ≡ k + 8 → AtKind t s m n i x z k
+at-kind {x = x} k h b e =
+    let f = kind-held h b in
+    let g : tag x ≡ k = omega arith in
+    rw g at (seen h b)
+
+pub is-goto : {t s : List ℕ} {m n i z : ℕ} {x : Block} → 0 < n → HoldsB t s m n i x z → getD t i 0 % 16 ≡ gotoKind → IsGoto t s m n i x z
+is-goto h b e = at-kind 0 h b e
+
+pub is-ite : {t s : List ℕ} {m n i z : ℕ} {x : Block} → 0 < n → HoldsB t s m n i x z → getD t i 0 % 16 ≡ iteKind → IsIte t s m n i x z
+is-ite h b e = at-kind 1 h b e
+
+pub is-step : {t s : List ℕ} {m n i z : ℕ} {x : Block} → 0 < n → HoldsB t s m n i x z → getD t i 0 % 16 ≡ stepKind → IsStep t s m n i x z
+is-step h b e = at-kind 2 h b e
 
 pub is-assign : {t s : List ℕ} {m n i z : ℕ} {x : Block} → 0 < n → HoldsB t s m n i x z → getD t i 0 % 16 ≡ assignKind → IsAssign t s m n i x z
-is-assign h b k = as-assign b (sym (kind-held h b) ∙ k)
+is-assign h b e = at-kind 3 h b e
 
 -- ---- at most one
 

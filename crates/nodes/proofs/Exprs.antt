@@ -51,18 +51,6 @@ pub record IsBinop (t s : List ℕ) (m i : ℕ) (e : Expr) (j : ℕ) : Type 0 wh
   pub left : HoldsE t s m first l second
   pub right : HoldsE t s m second r j
 
-as-binop : {t s : List ℕ} {m i j : ℕ} {e : Expr} → HoldsE t s m i e j → tag e ≡ binopKind → IsBinop t s m i e j
-unfolding tag
-as-binop (at-binop op o p w q l r) zz = record { op = op; o = o; l = _; r = _; first = _; second = _; is = refl; pick = p; word = w; next = q; left = l; right = r }
-as-binop (at-unop op o p w q r) zz = absurd (omega arith)
-as-binop (at-incdec b f x p g) zz = absurd (omega arith)
-as-binop (at-ident x l w k) zz = absurd (omega arith)
-as-binop (at-number p z l w k q) zz = absurd (omega arith)
-as-binop (at-string n p x l w y k q) zz = absurd (omega arith)
-
-pub is-binop : {t s : List ℕ} {m i j : ℕ} {e : Expr} → HoldsE t s m i e j → getD t i 0 % 16 ≡ binopKind → IsBinop t s m i e j
-is-binop h k = as-binop h (sym (kind-held h) ∙ k)
-
 pub record IsUnop (t s : List ℕ) (m i : ℕ) (e : Expr) (j : ℕ) : Type 0 where
   pub op : ℕ
   pub o : Unop
@@ -74,35 +62,11 @@ pub record IsUnop (t s : List ℕ) (m i : ℕ) (e : Expr) (j : ℕ) : Type 0 whe
   pub next : first ≡ i + 1
   pub operand : HoldsE t s m first r j
 
-as-unop : {t s : List ℕ} {m i j : ℕ} {e : Expr} → HoldsE t s m i e j → tag e ≡ unopKind → IsUnop t s m i e j
-unfolding tag
-as-unop (at-binop op o p w q l r) zz = absurd (omega arith)
-as-unop (at-unop op o p w q r) zz = record { op = op; o = o; r = _; first = _; is = refl; pick = p; word = w; next = q; operand = r }
-as-unop (at-incdec b f x p g) zz = absurd (omega arith)
-as-unop (at-ident x l w k) zz = absurd (omega arith)
-as-unop (at-number p z l w k q) zz = absurd (omega arith)
-as-unop (at-string n p x l w y k q) zz = absurd (omega arith)
-
-pub is-unop : {t s : List ℕ} {m i j : ℕ} {e : Expr} → HoldsE t s m i e j → getD t i 0 % 16 ≡ unopKind → IsUnop t s m i e j
-is-unop h k = as-unop h (sym (kind-held h) ∙ k)
-
 pub record IsIncdec (t s : List ℕ) (m i : ℕ) (e : Expr) (j : ℕ) : Type 0 where
   pub b : ℕ
   pub x : ℕ
   pub is : e ≡ Expr.incdec (isOne b) x
   pub flag : Flag incdecKind m t i b x j
-
-as-incdec : {t s : List ℕ} {m i j : ℕ} {e : Expr} → HoldsE t s m i e j → tag e ≡ incdecKind → IsIncdec t s m i e j
-unfolding tag
-as-incdec (at-binop op o p w q l r) zz = absurd (omega arith)
-as-incdec (at-unop op o p w q r) zz = absurd (omega arith)
-as-incdec (at-incdec b f x p g) zz = record { b = b; x = x; is = ap (λ (y : Bool). Expr.incdec y x) (sym p); flag = g }
-as-incdec (at-ident x l w k) zz = absurd (omega arith)
-as-incdec (at-number p z l w k q) zz = absurd (omega arith)
-as-incdec (at-string n p x l w y k q) zz = absurd (omega arith)
-
-pub is-incdec : {t s : List ℕ} {m i j : ℕ} {e : Expr} → HoldsE t s m i e j → getD t i 0 % 16 ≡ incdecKind → IsIncdec t s m i e j
-is-incdec h k = as-incdec h (sym (kind-held h) ∙ k)
 
 pub record IsIdent (t s : List ℕ) (m i : ℕ) (e : Expr) (j : ℕ) : Type 0 where
   pub x : ℕ
@@ -111,36 +75,12 @@ pub record IsIdent (t s : List ℕ) (m i : ℕ) (e : Expr) (j : ℕ) : Type 0 wh
   pub known : x < m
   pub last : j ≡ i + 1
 
-as-ident : {t s : List ℕ} {m i j : ℕ} {e : Expr} → HoldsE t s m i e j → tag e ≡ identKind → IsIdent t s m i e j
-unfolding tag
-as-ident (at-binop op o p w q l r) zz = absurd (omega arith)
-as-ident (at-unop op o p w q r) zz = absurd (omega arith)
-as-ident (at-incdec b f x p g) zz = absurd (omega arith)
-as-ident (at-ident x l w k) zz = record { x = x; is = refl; word = w; known = k; last = l }
-as-ident (at-number p z l w k q) zz = absurd (omega arith)
-as-ident (at-string n p x l w y k q) zz = absurd (omega arith)
-
-pub is-ident : {t s : List ℕ} {m i j : ℕ} {e : Expr} → HoldsE t s m i e j → getD t i 0 % 16 ≡ identKind → IsIdent t s m i e j
-is-ident h k = as-ident h (sym (kind-held h) ∙ k)
-
 pub record IsNumber (t s : List ℕ) (m i : ℕ) (e : Expr) (j : ℕ) : Type 0 where
   pub p : ℕ
   pub is : e ≡ number (signed (spelled s numberBits p))
   pub word : getD t i 0 ≡ wordOf numberKind 0 0 p j 0
   pub inside : p + numberBits ≤ byteBits * length s
   pub last : j ≡ i + 1
-
-as-number : {t s : List ℕ} {m i j : ℕ} {e : Expr} → HoldsE t s m i e j → tag e ≡ numberKind → IsNumber t s m i e j
-unfolding tag
-as-number (at-binop op o p w q l r) zz = absurd (omega arith)
-as-number (at-unop op o p w q r) zz = absurd (omega arith)
-as-number (at-incdec b f x p g) zz = absurd (omega arith)
-as-number (at-ident x l w k) zz = absurd (omega arith)
-as-number (at-number p z l w k q) zz = record { p = p; is = ap number (sym q); word = w; inside = k; last = l }
-as-number (at-string n p x l w y k q) zz = absurd (omega arith)
-
-pub is-number : {t s : List ℕ} {m i j : ℕ} {e : Expr} → HoldsE t s m i e j → getD t i 0 % 16 ≡ numberKind → IsNumber t s m i e j
-is-number h k = as-number h (sym (kind-held h) ∙ k)
 
 pub record IsString (t s : List ℕ) (m i : ℕ) (e : Expr) (j : ℕ) : Type 0 where
   pub n : ℕ
@@ -151,17 +91,45 @@ pub record IsString (t s : List ℕ) (m i : ℕ) (e : Expr) (j : ℕ) : Type 0 w
   pub inside : p + charBits * n ≤ byteBits * length s
   pub last : j ≡ i + 1
 
-as-string : {t s : List ℕ} {m i j : ℕ} {e : Expr} → HoldsE t s m i e j → tag e ≡ stringKind → IsString t s m i e j
+-- what is held where the kind is k
+abbrev AtKind : List ℕ → List ℕ → ℕ → ℕ → Expr → ℕ → ℕ → Type 0
+AtKind t s m i e j zero = IsBinop t s m i e j
+AtKind t s m i e j (suc zero) = IsUnop t s m i e j
+AtKind t s m i e j (suc (suc zero)) = IsIncdec t s m i e j
+AtKind t s m i e j (suc (suc (suc zero))) = IsIdent t s m i e j
+AtKind t s m i e j (suc (suc (suc (suc zero)))) = IsNumber t s m i e j
+AtKind t s m i e j (suc (suc (suc (suc (suc zero))))) = IsString t s m i e j
+AtKind t s m i e j (suc (suc (suc (suc (suc (suc k)))))) = ⊥
+
+seen : {t s : List ℕ} {m i j : ℕ} {e : Expr} → HoldsE t s m i e j → AtKind t s m i e j (tag e)
 unfolding tag
-as-string (at-binop op o p w q l r) zz = absurd (omega arith)
-as-string (at-unop op o p w q r) zz = absurd (omega arith)
-as-string (at-incdec b f x p g) zz = absurd (omega arith)
-as-string (at-ident x l w k) zz = absurd (omega arith)
-as-string (at-number p z l w k q) zz = absurd (omega arith)
-as-string (at-string n p x l w y k q) zz = record { n = n; p = p; is = ap string (sym q); word = w; few = y; inside = k; last = l }
+seen (at-binop op o p w q l r) = record { op = op; o = o; l = _; r = _; first = _; second = _; is = refl; pick = p; word = w; next = q; left = l; right = r }
+seen (at-unop op o p w q r) = record { op = op; o = o; r = _; first = _; is = refl; pick = p; word = w; next = q; operand = r }
+seen (at-incdec b f x p g) = record { b = b; x = x; is = ap (λ (y : Bool). Expr.incdec y x) (sym p); flag = g }
+seen (at-ident x l w k) = record { x = x; is = refl; word = w; known = k; last = l }
+seen (at-number p z l w k q) = record { p = p; is = ap number (sym q); word = w; inside = k; last = l }
+seen (at-string n p x l w y k q) = record { n = n; p = p; is = ap string (sym q); word = w; few = y; inside = k; last = l }
+
+at-kind : {t s : List ℕ} {m i j : ℕ} {e : Expr} (k : ℕ) → HoldsE t s m i e j → getD t i 0 % 16 ≡ k → AtKind t s m i e j k
+at-kind k h e = rw (sym (kind-held h) ∙ e) at (seen h)
+
+pub is-binop : {t s : List ℕ} {m i j : ℕ} {e : Expr} → HoldsE t s m i e j → getD t i 0 % 16 ≡ binopKind → IsBinop t s m i e j
+is-binop h e = at-kind binopKind h e
+
+pub is-unop : {t s : List ℕ} {m i j : ℕ} {e : Expr} → HoldsE t s m i e j → getD t i 0 % 16 ≡ unopKind → IsUnop t s m i e j
+is-unop h e = at-kind unopKind h e
+
+pub is-incdec : {t s : List ℕ} {m i j : ℕ} {e : Expr} → HoldsE t s m i e j → getD t i 0 % 16 ≡ incdecKind → IsIncdec t s m i e j
+is-incdec h e = at-kind incdecKind h e
+
+pub is-ident : {t s : List ℕ} {m i j : ℕ} {e : Expr} → HoldsE t s m i e j → getD t i 0 % 16 ≡ identKind → IsIdent t s m i e j
+is-ident h e = at-kind identKind h e
+
+pub is-number : {t s : List ℕ} {m i j : ℕ} {e : Expr} → HoldsE t s m i e j → getD t i 0 % 16 ≡ numberKind → IsNumber t s m i e j
+is-number h e = at-kind numberKind h e
 
 pub is-string : {t s : List ℕ} {m i j : ℕ} {e : Expr} → HoldsE t s m i e j → getD t i 0 % 16 ≡ stringKind → IsString t s m i e j
-is-string h k = as-string h (sym (kind-held h) ∙ k)
+is-string h e = at-kind stringKind h e
 
 -- ---- at most one
 

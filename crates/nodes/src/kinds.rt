@@ -15,6 +15,7 @@ pub const GOTO: u64 = 8;
 
 pub const ITE: u64 = 9;
 
+// An Incdec as a statement.
 pub const STEP: u64 = 10;
 
 pub const ASSIGN: u64 = 11;

@@ -49,10 +49,8 @@ fn word(kind: u64, op: u64, name: u64, pos: usize, last: usize, width: usize) ->
     requires { ⌜ (kind < 16) × (op < 16) × (name < 256) × (pos < 524288) × (last < 4096) × (width < 8192) ⌝ }
     ensures { λ r. ⌜ r ≡ wordOf kind op name pos last width ⌝ }
 {
-    kind
-        + 16
-            * (op
-                + 16 * (name + 256 * (pos as u64 + 524288 * (width as u64 + 8192 * (last as u64)))))
+    let low = kind + 16 * op + 256 * name + 65536 * (pos as u64);
+    low + 34359738368 * (width as u64) + 281474976710656 * (last as u64)
 }
 
 // Node i is done: its word is written, now that the node behind it is known.

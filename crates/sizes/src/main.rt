@@ -1,8 +1,11 @@
-// Reads a tree of up to 8,192 bytes from standard input and prints its six sizes, or R and the number that refuses it.
+// Reads a tree file from standard input and prints M and its six sizes, or R and the number that refuses it.
+// One byte more than the longest file is read, so that a longer one is seen to be too long.
 use libc::STDIN_FILENO;
 use libc::STDOUT_FILENO;
 use tree::SizeAnswer;
 use tree::Sizes;
+
+const ROOM: usize = 32769;
 
 fn number(x: u64) {
     io::write_all(STDOUT_FILENO, b" ");
@@ -35,7 +38,7 @@ fn answer(s: &[u8]) {
 }
 
 fn main() {
-    let mut buf = [0u8; 32769];
+    let mut buf = [0u8; ROOM];
     let n = io::read_full(STDIN_FILENO, &mut buf);
     answer(&buf[..n]);
 }
