@@ -1,30 +1,8 @@
 //! The judge: yogi's own code behind the tree form and the refusals of document 01.
 //! README.md says what each command does.
 
-mod bits;
-mod figures;
-mod finlist;
-mod generate;
-mod judge;
-mod limits;
-mod line;
-mod lowering;
-mod machine;
-mod origin;
-mod record;
-mod rng;
-mod selftest;
-#[cfg(test)]
-mod tests;
-mod theorems;
-mod tree;
-mod walk;
-#[cfg(test)]
-mod walk_tests;
-mod walks;
-mod yogi;
-
-use judge::{Answer, Op, Options, Stage};
+use oracle::judge::{Answer, Op, Options, Stage};
+use oracle::{bits, finlist, generate, line, machine, record, selftest, theorems, tree, walks, judge};
 use std::io::{Read, Write};
 use std::process::ExitCode;
 
