@@ -1,12 +1,13 @@
 -- How a call through the static library answers: by the tests in their order. Assumes nothing.
-use mathlib.Core.Path.{_≡_, refl, ap}
+use mathlib.Core.Path.{_≡_, refl, sym, ap, ap₂, _∙_}
 use mathlib.Core.List.{List}
 use Prim.Native.Nat.{ℕ, _≤_, _<_}
 use lib.ListN.{length}
 use borrow.Author.Tests.{lt-ltb, le-ltb}
 use Rattle.rules.specs.Bits.{Res, refused, ok}
 use Rattle.rules.specs.Operations.{Size, size}
-use Rattle.sezkibalo.specs.Calls.{sizeAnswer, sizeCall}
+use Rattle.rules.specs.Tables.{Tables, Counts}
+use Rattle.sezkibalo.specs.Calls.{sizeAnswer, sizeCall, rowCounts, countsAnswer, changeCall}
 
 -- `counts` is too short
 pub size-short : (s c : List ℕ) → length c < 6 → (11, c) ≡ sizeCall s c
@@ -17,3 +18,17 @@ size-short s c h = rw (lt-ltb (length c) 6 h, sizeCall)
 pub size-answers : (s c : List ℕ) (x : Res Size) → 6 ≤ length c → x ≡ size s → sizeAnswer x c ≡ sizeCall s c
 unfolding sizeCall
 size-answers s c x h e = rw (le-ltb (length c) 6 h, sizeCall, e)
+
+-- ---- replace, clean, combine: an operation f
+
+module _ (f : Tables → Counts → Res Counts × Tables) (c : List ℕ) (t : Tables) where
+  pub change-short : length c < 8 → (11, c, t) ≡ changeCall f c t
+  unfolding changeCall
+  change-short h = rw (lt-ltb (length c) 8 h, changeCall)
+
+  -- the answer x and the tables u afterwards, where f was called with the counts v
+  pub change-answers : (v : Counts) (x : Res Counts) (u : Tables) → 8 ≤ length c → v ≡ rowCounts c → (x, u) ≡ f t v → countsAnswer x c u ≡ changeCall f c t
+  unfolding changeCall
+  change-answers v x u h r e =
+      let e′ : (x, u) ≡ f t (rowCounts c) = e ∙ ap (f t) r in
+      ap₂ (λ (a : Res Counts) (b : Tables). countsAnswer a c b) (ap (λ (y : Res Counts × Tables). y .0) e′) (ap (λ (y : Res Counts × Tables). y .1) e′) ∙ sym (rw (le-ltb (length c) 8 h, changeCall))

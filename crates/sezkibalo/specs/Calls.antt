@@ -1,22 +1,25 @@
--- What each call through the static library answers, and the lent numbers afterwards: document 01's operations with plain numbers.
+-- What each call through the static library answers, and what is lent afterwards: document 01's operations with plain numbers. 0 is an
+-- answer that does not refuse.
 use mathlib.Core.Bool.{true, false}
 use mathlib.Core.List.{List, [], _∷_, _++_}
 use Prim.Native.Nat.{ℕ}
 use lib.Dec.{ltb}
-use lib.ListN.{length, drop}
+use lib.ListN.{length, drop, getD}
 use Rattle.rules.specs.Refusal as Refusal
 use Rattle.rules.specs.Bits.{Res, refused, ok}
+use Rattle.rules.specs.Tables.{Tables, Counts}
 use Rattle.rules.specs.Operations.{Size, size}
 
 -- numbers at the start of a lent list, the rest as it was
 abbrev pub front : List ℕ → List ℕ → List ℕ
 front ws c = ws ++ drop (length ws) c
 
+-- ---- size
+
 -- the sizes in their order
 abbrev pub sizeRow : Size → List ℕ
 sizeRow z = z .lines ∷ z .names ∷ z .statements ∷ z .nodes ∷ z .strings ∷ z .characters ∷ []
 
--- an answer as a number (0: not refused), and the lent list behind it
 abbrev pub sizeAnswer : Res Size → List ℕ → ℕ × List ℕ
 sizeAnswer (refused n) c = (n, c)
 sizeAnswer (ok z) c = (0, front (sizeRow z) c)
@@ -24,3 +27,29 @@ sizeAnswer (ok z) c = (0, front (sizeRow z) c)
 -- sezkibalo_size: 11 before all else where `counts` has no room for six
 unfoldable pub sizeCall : List ℕ → List ℕ → ℕ × List ℕ
 sizeCall s c = elim (ltb (length c) 6) [ true ↦ (Refusal.noRoom, c) | false ↦ sizeAnswer (size s) c ]
+
+-- ---- replace, clean, combine
+
+-- the counts in their order
+abbrev pub countsRow : Counts → List ℕ
+countsRow u = u .lines ∷ u .sections ∷ u .instrs ∷ u .numbers ∷ u .strings ∷ u .pool ∷ u .values ∷ u .names ∷ []
+
+abbrev pub rowCounts : List ℕ → Counts
+rowCounts c = record {
+  lines = getD c 0 0;
+  sections = getD c 1 0;
+  instrs = getD c 2 0;
+  numbers = getD c 3 0;
+  strings = getD c 4 0;
+  pool = getD c 5 0;
+  names = getD c 7 0;
+  values = getD c 6 0;
+}
+
+abbrev pub countsAnswer : Res Counts → List ℕ → Tables → ℕ × List ℕ × Tables
+countsAnswer (refused n) c t = (n, c, t)
+countsAnswer (ok u) c t = (0, front (countsRow u) c, t)
+
+-- an operation f on the machine in the tables: 11 before all else where `counts` has no room for eight
+unfoldable pub changeCall : (Tables → Counts → Res Counts × Tables) → List ℕ → Tables → ℕ × List ℕ × Tables
+changeCall f c t = elim (ltb (length c) 8) [ true ↦ (Refusal.noRoom, c, t) | false ↦ countsAnswer (f t (rowCounts c) .0) c (f t (rowCounts c) .1) ]

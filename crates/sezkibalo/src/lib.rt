@@ -2,43 +2,60 @@
 //
 // Each function is shown to give what its definition in specs/Calls says, in which the definitions of `rules` are the answer and every lent word.
 // None asks anything of its caller.
+pub mod counts;
+
 ghost use mathlib.Core.Path.{_≡_};
-ghost use Prim.Native.Nat.{_≤_};
-ghost use lib.ListN.{length};
-ghost use Rattle.tree.specs.Files.{sized};
-ghost use Rattle.sezkibalo.specs.Calls.{front, sizeRow, sizeCall};
+ghost use Rattle.rules.specs.Operations as Operations;
+ghost use Rattle.tables.specs.Lent.{tables};
+ghost use Rattle.sezkibalo.specs.Calls.{sizeCall, changeCall};
+use counts::EIGHT;
+use counts::SIX;
+use counts::put_counts;
+use counts::put_sizes;
+use counts::read_counts;
+use tables::answer::Answer;
 use tree::SizeAnswer;
-use tree::Sizes;
-
-// `counts` is too short for the answer.
-const NO_ROOM: u64 = 11;
-
-// The six sizes at the start of `counts`.
-fn put_sizes(counts: &mut [u64], z: Sizes)
-    requires { ⌜ 6 ≤ length (now counts) ⌝ }
-    ensures { λ r. ⌜ now (counts .exit) ≡ front (sizeRow (sized z)) (now (counts .entry)) ⌝ }
-{
-    counts[0] = z.lines;
-    counts[1] = z.names;
-    counts[2] = z.statements as u64;
-    counts[3] = z.nodes as u64;
-    counts[4] = z.strings as u64;
-    counts[5] = z.characters as u64;
-}
 
 // Lines, names, statements, nodes, strings and characters of a tree file; or the number that refuses it.
 #[no_mangle]
 pub extern "C" fn sezkibalo_size(tree: &[u8], counts: &mut [u64]) -> u64
     ensures { λ r. ⌜ (r, now (counts .exit)) ≡ sizeCall (now (tree .entry)) (now (counts .entry)) ⌝ }
 {
-    if counts.len() < 6 {
-        return NO_ROOM;
+    if counts.len() < SIX {
+        return Answer::NO_ROOM;
     }
     let a = tree::size(tree);
     match a {
         SizeAnswer::Refused(n) => n,
         SizeAnswer::Sized(z) => {
             put_sizes(counts, z);
+            0
+        }
+    }
+}
+
+// Removes the unfixed sections of a machine.
+#[no_mangle]
+pub extern "C" fn sezkibalo_clean(
+    counts: &mut [u64],
+    sections: &mut [u64],
+    instructions: &mut [u64],
+    numbers: &mut [i64],
+    strings: &mut [u32],
+    pool: &[u8],
+    names: &[u16],
+) -> u64
+    ensures { λ r. ⌜ (r, now (counts .exit), tables (now (sections .exit)) (now (instructions .exit)) (now (numbers .exit)) (now (strings .exit)) (now (pool .entry)) (now (names .entry))) ≡ changeCall Operations.clean (now (counts .entry)) (tables (now (sections .entry)) (now (instructions .entry)) (now (numbers .entry)) (now (strings .entry)) (now (pool .entry)) (now (names .entry))) ⌝ }
+{
+    if counts.len() < EIGHT {
+        return Answer::NO_ROOM;
+    }
+    let c = read_counts(counts);
+    let a = clean::clean::clean(c, sections, instructions, numbers, strings, pool, names);
+    match a {
+        Answer::Refused(n) => n,
+        Answer::Done(d) => {
+            put_counts(counts, d);
             0
         }
     }
