@@ -7,7 +7,9 @@ use borrow.Author.Tests.{lt-ltb, le-ltb}
 use Rattle.rules.specs.Bits.{Res, refused, ok}
 use Rattle.rules.specs.Operations.{Size, size}
 use Rattle.rules.specs.Tables.{Tables, Counts}
-use Rattle.sezkibalo.specs.Calls.{sizeAnswer, sizeCall, rowCounts, countsAnswer, changeCall}
+use Rattle.sezkibalo.specs.Calls.{sizeAnswer, sizeCall, front, countsRow, rowCounts, countsAnswer, changeCall}
+use Rattle.tables.specs.declared.answer.Answer.{Answer}
+use Rattle.tables.specs.Lent.{answerTold}
 
 -- `counts` is too short
 pub size-short : (s c : List ℕ) → length c < 6 → (11, c) ≡ sizeCall s c
@@ -32,3 +34,14 @@ module _ (f : Tables → Counts → Res Counts × Tables) (c : List ℕ) (t : Ta
   change-answers v x u h r e =
       let e′ : (x, u) ≡ f t (rowCounts c) = e ∙ ap (f t) r in
       ap₂ (λ (a : Res Counts) (b : Tables). countsAnswer a c b) (ap (λ (y : Res Counts × Tables). y .0) e′) (ap (λ (y : Res Counts × Tables). y .1) e′) ∙ sym (rw (le-ltb (length c) 8 h, changeCall))
+
+  -- a refusal, and the counts written
+  pub change-refused : (v : Counts) (n : ℕ) (u : Tables) → 8 ≤ length c → v ≡ rowCounts c → (refused n, u) ≡ f t v → (n, c, u) ≡ changeCall f c t
+  change-refused v n u h r e = change-answers v (refused n) u h r e
+
+  pub change-done : (v x : Counts) (u : Tables) (k : List ℕ) → 8 ≤ length c → v ≡ rowCounts c → (ok x, u) ≡ f t v → k ≡ front (countsRow x) c → (0, k, u) ≡ changeCall f c t
+  change-done v x u k h r e w = ap (λ (z : List ℕ). (0, z, u)) w ∙ change-answers v (ok x) u h r e
+
+-- an answer by what it was found to be
+pub told : (z w : Answer) (u : Tables) (p : Res Counts × Tables) → z ≡ w → (answerTold z, u) ≡ p → (answerTold w, u) ≡ p
+told z w u p e h = ap (λ (y : Answer). (answerTold y, u)) (sym e) ∙ h
