@@ -4,10 +4,11 @@ use mathlib.Core.List.{List}
 use Prim.Native.Nat.{ℕ, _≤_, _<_}
 use lib.ListN.{length}
 use borrow.Author.Tests.{lt-ltb, le-ltb}
+use Rattle.rules.specs.Word.{Span}
 use Rattle.rules.specs.Bits.{Res, refused, ok}
-use Rattle.rules.specs.Operations.{Size, size}
+use Rattle.rules.specs.Operations.{Size, size, textSpan}
 use Rattle.rules.specs.Tables.{Tables, Counts}
-use Rattle.sezkibalo.specs.Calls.{sizeAnswer, sizeCall, front, countsRow, rowCounts, countsAnswer, changeCall}
+use Rattle.sezkibalo.specs.Calls.{sizeAnswer, sizeCall, spotOf, textCall, front, countsRow, rowCounts, countsAnswer, changeCall}
 use Rattle.tables.specs.declared.answer.Answer.{Answer}
 use Rattle.tables.specs.Lent.{answerTold}
 
@@ -45,3 +46,13 @@ module _ (f : Tables → Counts → Res Counts × Tables) (c : List ℕ) (t : Ta
 -- an answer by what it was found to be
 pub told : (z w : Answer) (u : Tables) (p : Res Counts × Tables) → z ≡ w → (answerTold z, u) ≡ p → (answerTold w, u) ≡ p
 told z w u p e h = ap (λ (y : Answer). (answerTold y, u)) (sym e) ∙ h
+
+-- ---- text
+
+pub text-bad : (ts p : List ℕ) (r : ℕ) → 65535 < r → spotOf (length p) 0 ≡ textCall ts p r
+unfolding textCall
+text-bad ts p r h = sym (rw (lt-ltb 65535 r h, textCall))
+
+pub text-placed : (ts p : List ℕ) (r s n : ℕ) → r ≤ 65535 → record { start = s; size = n } ≡ textSpan ts p r → spotOf s n ≡ textCall ts p r
+unfolding textCall
+text-placed ts p r s n h e = ap (λ (z : Span). spotOf (z .start) (z .size)) e ∙ sym (rw (le-ltb 65535 r h, textCall))

@@ -2,13 +2,14 @@
 -- answer that does not refuse.
 use mathlib.Core.Bool.{true, false}
 use mathlib.Core.List.{List, [], _∷_, _++_}
-use Prim.Native.Nat.{ℕ}
+use Prim.Native.Nat.{ℕ, _+_, _*_, _^_, _-_, min}
 use lib.Dec.{ltb}
 use lib.ListN.{length, drop, getD}
+use Rattle.rules.specs.Constants.{mostCount}
 use Rattle.rules.specs.Refusal as Refusal
 use Rattle.rules.specs.Bits.{Res, refused, ok}
 use Rattle.rules.specs.Tables.{Tables, Counts}
-use Rattle.rules.specs.Operations.{Size, size}
+use Rattle.rules.specs.Operations.{Size, size, textSpan}
 
 -- numbers at the start of a lent list, the rest as it was
 abbrev pub front : List ℕ → List ℕ → List ℕ
@@ -53,3 +54,13 @@ countsAnswer (ok u) c t = (0, front (countsRow u) c, t)
 -- an operation f on the machine in the tables: 11 before all else where `counts` has no room for eight
 unfoldable pub changeCall : (Tables → Counts → Res Counts × Tables) → List ℕ → Tables → ℕ × List ℕ × Tables
 changeCall f c t = elim (ltb (length c) 8) [ true ↦ (Refusal.noRoom, c, t) | false ↦ countsAnswer (f t (rowCounts c) .0) c (f t (rowCounts c) .1) ]
+
+-- ---- text
+
+-- a start and a length in one number; a start above 2^32 - 1 is said as that
+abbrev pub spotOf : ℕ → ℕ → ℕ
+spotOf s n = min s (2 ^ 32 - 1) * 2 ^ 32 + n
+
+-- sezkibalo_text: no register has a number above 65,535
+unfoldable pub textCall : List ℕ → List ℕ → ℕ → ℕ
+textCall ts p r = elim (ltb mostCount r) [ true ↦ spotOf (length p) 0 | false ↦ spotOf (textSpan ts p r .start) (textSpan ts p r .size) ]

@@ -5,16 +5,36 @@
 pub mod counts;
 
 ghost use mathlib.Core.Path.{_≡_};
+ghost use Prim.Native.Nat.{_<_};
 ghost use Rattle.rules.specs.Operations as Operations;
 ghost use Rattle.tables.specs.Lent.{tables};
-ghost use Rattle.sezkibalo.specs.Calls.{sizeCall, changeCall};
+ghost use Rattle.sezkibalo.specs.Calls.{spotOf, sizeCall, changeCall, textCall};
 use counts::EIGHT;
 use counts::SIX;
 use counts::put_counts;
 use counts::put_sizes;
 use counts::read_counts;
 use tables::answer::Answer;
+use tables::text::text_place;
 use tree::SizeAnswer;
+use words::instr::StrReg;
+
+// The largest register number.
+const MOST_REGISTER: u64 = 65535;
+
+// The largest start that a spot can say.
+const MOST_START: usize = 4294967295;
+
+// A start and a length in one number.
+fn spot(start: usize, length: usize) -> u64
+    requires { ⌜ length < 128 ⌝ }
+    ensures { λ r. ⌜ r ≡ spotOf start length ⌝ }
+{
+    if start > MOST_START {
+        return MOST_START as u64 * 4294967296 + length as u64;
+    }
+    start as u64 * 4294967296 + length as u64
+}
 
 // Lines, names, statements, nodes, strings and characters of a tree file; or the number that refuses it.
 #[no_mangle]
@@ -59,4 +79,17 @@ pub extern "C" fn sezkibalo_clean(
             0
         }
     }
+}
+
+// The place of a string register's text in the pool, start × 2^32 + length; empty, at the pool's end, where register or word is bad. A pool that
+// ends behind 2^32 - 1 ends there.
+#[no_mangle]
+pub extern "C" fn sezkibalo_text(strings: &[u32], pool: &[u8], register: u64) -> u64
+    ensures { λ r. ⌜ r ≡ textCall (now (strings .entry)) (now (pool .entry)) register ⌝ }
+{
+    if register > MOST_REGISTER {
+        return spot(pool.len(), 0);
+    }
+    let p = text_place(strings, pool, StrReg(register as u16));
+    spot(p.start, p.length)
 }
