@@ -92,11 +92,22 @@ module _ (p x y q : List ℕ) (a m b : ℕ) (hp : length p ≡ a) (hx : a + leng
   three =
       let h1 : length (p ++ reverse x) ≡ m = length-append p (reverse x) ∙ ap (λ (k : ℕ). length p + k) (length-reverse x) ∙ adds in
       let h2 : a + length (reverse x ++ reverse y) ≡ b = ap (λ (k : ℕ). a + k) (length-append (reverse x) (reverse y)) ∙ ends (length (reverse x)) (length (reverse y)) (length-reverse x) (length-reverse y) in
-      rw (turn-cut p x (y ++ q) a m hp hx, ← append-assoc p (reverse x) (y ++ q), turn-cut (p ++ reverse x) y q m b h1 hy, append-assoc p (reverse x) (reverse y ++ q), ← append-assoc (reverse x) (reverse y) q,
-        turn-cut p (reverse x ++ reverse y) q a b hp h2, reverse-append, reverse-reverse, reverse-reverse, append-assoc)
+      rw (
+        turn-cut p x (y ++ q) a m hp hx,
+        ← append-assoc p (reverse x) (y ++ q),
+        turn-cut (p ++ reverse x) y q m b h1 hy,
+        append-assoc p (reverse x) (reverse y ++ q),
+        ← append-assoc (reverse x) (reverse y) q,
+        turn-cut p (reverse x ++ reverse y) q a b hp h2,
+        reverse-append,
+        reverse-reverse,
+        reverse-reverse,
+        append-assoc,
+      )
     where
       adds : length p + length x ≡ m
       adds = omega arith
+
       ends : (r s : ℕ) → r ≡ length x → s ≡ length y → a + (r + s) ≡ b
       ends r s e d = omega arith
 

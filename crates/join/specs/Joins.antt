@@ -215,17 +215,19 @@ module _ (ps ms zs : List SectionCode) (a b : SectionCode) (R Q : List ℕ) (i j
   small-new : All SectSmall new
   small-new =
       all-append SectSmall ps (joined a b ∷ (ms ++ zs))
-      (all-left SectSmall ps (a ∷ (ms ++ (b ∷ zs))) small)
-      ((small-b .0, all-append InsSmall (a .instrs) (b .instrs) (small-a .1) (small-b .1)),
-        all-append SectSmall ms zs (all-left SectSmall ms (b ∷ zs) small-behind) (all-right SectSmall ms (b ∷ zs) small-behind .1))
+      (all-left SectSmall ps (a ∷ (ms ++ (b ∷ zs))) small) (
+        (small-b .0, all-append InsSmall (a .instrs) (b .instrs) (small-a .1) (small-b .1)),
+        all-append SectSmall ms zs (all-left SectSmall ms (b ∷ zs) small-behind) (all-right SectSmall ms (b ∷ zs) small-behind .1),
+      )
 
   new-words : Tell (A ++ (mergedWord wa wb ∷ (M ++ Z))) new
   new-words =
       let l = lengths in
       tell-append A (mergedWord wa wb ∷ (M ++ Z)) ps (joined a b ∷ (ms ++ zs))
-      (tell ps 0 (all-left SectSmall ps (a ∷ (ms ++ (b ∷ zs))) small) (omega arith))
-      (merged wa wb a b (tells a ka small-a (omega arith)) (tells b kb small-b (omega arith)) (small-b .0) (omega (arith, first-a)) (omega arith),
-        tell-append M Z ms zs (tell ms km (all-left SectSmall ms (b ∷ zs) small-behind) (omega arith)) (tell zs kz (all-right SectSmall ms (b ∷ zs) small-behind .1) (omega arith)))
+      (tell ps 0 (all-left SectSmall ps (a ∷ (ms ++ (b ∷ zs))) small) (omega arith)) (
+        merged wa wb a b (tells a ka small-a (omega arith)) (tells b kb small-b (omega arith)) (small-b .0) (omega (arith, first-a)) (omega arith),
+        tell-append M Z ms zs (tell ms km (all-left SectSmall ms (b ∷ zs) small-behind) (omega arith)) (tell zs kz (all-right SectSmall ms (b ∷ zs) small-behind .1) (omega arith)),
+      )
 
   -- the section words: S1's takes S2 in, S2's goes, all are numbered anew
   cut-words : cutOut j n (set (A ++ (wa ∷ (M ++ (wb ∷ (Z ++ R))))) i (mergedWord wa wb)) ≡ (A ++ (mergedWord wa wb ∷ (M ++ Z))) ++ (0 ∷ R)
@@ -362,7 +364,7 @@ module _ (S I : List ℕ) (n e : ℕ) (ss : List SectionCode) (h : Holds S I n e
     joins =
         let s = steps ps ms zs a b (drop n S) (drop e I) i j n e len-ps len-ms len-zs small-whole code-whole (h .short) in
         let w = words ∙ words-are ps ms zs a b (drop n S) (drop e I) i j n e len-ps len-ms len-zs small-whole code-whole (h .short) in
-        subst (λ (x : List SectionCode). Steps S I n e i j x) combined (subst (λ (x : List ℕ). Steps S x n e i j (map (ren (fall j)) (ps ++ (joined a b ∷ (ms ++ zs))))) (sym code) (subst (λ (x : List ℕ). Steps x _ n e i j (map (ren (fall j)) (ps ++ (joined a b ∷ (ms ++ zs))))) (sym w) s))
+        subst (λ (x : List SectionCode). Steps S I n e i j x) combined (subst (λ (x : List ℕ). Steps S x n e i j (map (ren (fall j)) (ps ++ (joined a b ∷ (ms ++ zs))))) (sym code) (subst (λ (x : List ℕ). Steps x (map insWord (allCode (ps ++ (a ∷ (ms ++ (b ∷ zs))))) ++ drop e I) n e i j (map (ren (fall j)) (ps ++ (joined a b ∷ (ms ++ zs))))) (sym w) s))
 
     -- the words hold the join
     pub join-holds : (s t : List ℕ) → Changed S I s t n e (combineAt ss i j) → Holds s t (n - 1) e (combineAt ss i j)

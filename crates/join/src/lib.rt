@@ -4,6 +4,7 @@
 // above S1. It touches each section word and each instruction word at most five times.
 pub mod instructions;
 pub mod sections;
+
 ghost use Prim.Native.Nat.{_<_};
 ghost use Rattle.rules.specs.Combine.{combineAt};
 ghost use Rattle.join.specs.Held.{held, Sound, Changed};

@@ -18,7 +18,12 @@ pub fn joined(a: SectionWord, b: SectionWord) -> SectionWord
     requires { ⌜ countOf (a .0) + countOf (b .0) < 65536 ⌝ }
     ensures { λ r. ⌜ r .0 ≡ mergedWord (a .0) (b .0) ⌝ }
 {
-    SectionWord::pack(a.line_start(), b.success(), a.first(), a.count() + b.count())
+    SectionWord::pack(
+        a.line_start(),
+        b.success(),
+        a.first(),
+        a.count() + b.count(),
+    )
 }
 
 // The words above `at` moved down by one; the last of the n is zero.

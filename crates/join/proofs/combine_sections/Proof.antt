@@ -147,7 +147,9 @@ remove-section-requires c κs =
 
 -- src/lib.rt:15:1
 same-length : tie.Need-same-length
-same-length c = search needs
+same-length c =
+    let st = c .before .before .before .before .before .before .before .before .before .before .before .before .before .before .before .before .before .before .before .before .before .before .before .before .before .before .before .before .before in
+    c .before .before .before .before .before .before .renumber .kept .0 ∙ (c .before .before .before .before .before .before .before .before .before .before .remove-word .kept .0 ∙ length-set (st .args .sections .now) (st .args .s1 .0) (c .before .before .before .before .before .before .before .before .before .before .before .before .before .before .joined .result .0))
 
 -- src/lib.rt:15:1
 same-length-2 : tie.Need-same-length-2
