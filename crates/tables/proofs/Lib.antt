@@ -1,0 +1,4 @@
+pub mod Single
+pub mod Walks
+pub mod Sound
+pub mod Texts
