@@ -22,8 +22,9 @@ pub fn contiguous_to(section: SectionWord) -> Target
     ensures { λ r. ⌜ targetTold r ≡ nextOf (successOf (wordRun (section .0))) ⌝ }
 {
     match section.success() {
+        SectionOrLine::Unfixed => Target::Nowhere,
         SectionOrLine::Section(success) => Target::At(success),
-        _ => Target::Nowhere,
+        SectionOrLine::Line(_) => Target::Nowhere,
     }
 }
 

@@ -1,3 +1,7 @@
+use Rattle.combine.proofs.Ways.{ahead-none, ahead-past, ahead-there}
+use Rattle.words.specs.Told.{targetTold}
+use native.Mathlib.Omega.{arith}
+use mathlib.Core.Path.{_≡_, refl, sym, ap, _∙_}
 use borrow.Author.Needs.{needs}
 use Rattle.combine.proofs.refusals.is_ahead.Statement.{statement}
 use Rattle.combine.proofs.refusals.is_ahead.Tie as tie
@@ -28,7 +32,8 @@ enum-told c = search needs
 
 -- src/refusals.rt:36:9
 returns : tie.Need-returns
-returns c = ?
+returns c =
+    ahead-none (c .before .before .before .before .before .args .sections .now) (c .before .before .before .before .before .args .n) (c .before .before .before .before .before .args .i) _ _ (c .before .before .contiguous-to .ensures) (ap targetTold (c .enum-told .given .1))
 
 -- src/refusals.rt:38:14
 cast-at : tie.Need-cast-at
@@ -36,7 +41,8 @@ cast-at c = search needs
 
 -- src/refusals.rt:40:9
 returns-2 : tie.Need-returns-2
-returns-2 c = ?
+returns-2 c =
+    ahead-past (c .before .before .before .before .before .before .before .before .args .sections .now) (c .before .before .before .before .before .before .before .before .args .n) (c .before .before .before .before .before .before .before .before .args .i) _ _ (c .before .before .before .before .before .contiguous-to .ensures) _ (ap targetTold (c .before .before .before .next .given .1)) (c .if1 .taken)
 
 -- src/refusals.rt:42:17
 mul-t7-2 : tie.Need-mul-t7-2
@@ -52,7 +58,8 @@ line-start-requires c κs = search needs
 
 -- src/refusals.rt:31:1
 returns-3 : tie.Need-returns-3
-returns-3 c = ?
+returns-3 c =
+    ahead-there (c .before .before .before .before .before .before .before .before .before .before .args .sections .now) (c .before .before .before .before .before .before .before .before .before .before .args .n) (c .before .before .before .before .before .before .before .before .before .before .args .i) _ _ (c .before .before .before .before .before .before .before .contiguous-to .ensures) _ (ap targetTold (c .before .before .before .before .before .next .given .1)) (c .before .before .if1 .left) _ (c .line-start .ensures)
 
 pub is-ahead-spec : {M : Type 1} → statement M
 is-ahead-spec =
