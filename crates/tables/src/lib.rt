@@ -2,5 +2,6 @@
 pub mod answer;
 pub mod check;
 pub mod counts;
+pub mod shift;
 pub mod text;
 pub mod word;
