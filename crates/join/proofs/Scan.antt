@@ -6,29 +6,9 @@ use native.Mathlib.Omega.{arith}
 use native.Mathlib.Numerals.{add-one}
 use lib.ListN.{length, take, drop, getD, set, take-append-drop, length-set}
 use lib.Seq.{slice, slice-cons, slice-empty, take-suc-set, take-set-lt, drop-set-lt, append-snoc, set-split}
-use Rattle.join.specs.Passes.{countOf, total, cutOut, wordAt, numbered}
-
--- a store at i below n
-module _ (s : List ℕ) (i n v : ℕ) (h : i < n) (l : n ≤ length s) where
-  pub set-taken : take (i + 1) (set s i v) ≡ take i s ++ (v ∷ [])
-  set-taken = let z : i < length s = omega arith in rw add-one (take-suc-set s i v z)
-
-  pub set-left : (j : ℕ) → i < j → slice j n (set s i v) ≡ slice j n s
-  set-left j k = rw (take-set-lt n s i v h, drop-set-lt j (take n s) i v k)
-
-  pub set-rest : drop n (set s i v) ≡ drop n s
-  set-rest = drop-set-lt n s i v h
-
--- ---- each word by itself
-
-module _ (g : ℕ → ℕ) (s : List ℕ) (i n : ℕ) where
-  pub map-done : n ≤ i → i ≤ n → take i s ++ (map g (slice i n s) ++ drop n s) ≡ s
-  map-done a b = let e : i ≡ n = omega arith in rw (e, slice-empty) (take-append-drop n s)
-
-  pub map-more : i < n → n ≤ length s → (v : ℕ) → v ≡ g (getD s i 0) → take (i + 1) (set s i v) ++ (map g (slice (i + 1) n (set s i v)) ++ drop n (set s i v)) ≡ take i s ++ (map g (slice i n s) ++ drop n s)
-  map-more h l v e =
-      let z : i < i + 1 = omega arith in
-      rw (set-taken s i n v h l, set-left s i n v h l (i + 1) z, set-rest s i n v h l, slice-cons i n s 0 h l, add-one, e) (append-snoc (take i s) (g (getD s i 0)) (map g (slice (suc i) n s) ++ drop n s))
+use Rattle.tables.specs.Runs.{countOf, total, Down}
+use Rattle.tables.proofs.InPlace.{set-taken, set-left, set-rest, drop-take}
+use Rattle.join.specs.Passes.{cutOut, wordAt, numbered}
 
 -- ---- numbered anew
 
@@ -50,20 +30,16 @@ module _ (j : ℕ) (s : List ℕ) (i n k : ℕ) where
   unfolding total
   total-more h l v = let z : i < i + 1 = omega arith in rw (set-left s i n v h l (i + 1) z, slice-cons i n s 0 h l, add-one)
 
--- ---- a word taken out
+-- ---- a word taken out: those above it moved down, the last zeroed
 
-module _ (s : List ℕ) (i n : ℕ) where
-  pub cut-more : i + 1 < n → n ≤ length s → cutOut (i + 1) n (set s i (getD s (i + 1) 0)) ≡ cutOut i n s
-  unfolding cutOut
-  cut-more h l =
-      let p : i < n = omega arith in
-      let z : i < suc (i + 1) = omega arith in
-      rw (set-taken s i n (getD s (i + 1) 0) p l, set-left s i n (getD s (i + 1) 0) p l (suc (i + 1)) z, set-rest s i n (getD s (i + 1) 0) p l, ← add-one i, slice-cons (i + 1) n s 0 h l)
-      (append-snoc (take i s) (getD s (i + 1) 0) (slice (suc (i + 1)) n s ++ (0 ∷ drop n s)))
-
-  pub cut-done : i < n → n ≤ i + 1 → n ≤ length s → set s i 0 ≡ cutOut i n s
-  unfolding cutOut
-  cut-done h k l =
-      let e : n ≡ suc i = omega arith in
-      let z : i < length s = omega arith in
-      rw (e, slice-empty) (set-split s i 0 z)
+pub cut-is : (s s′ : List ℕ) (j n : ℕ) → j < n → n ≤ length s → length s′ ≡ length s → Down s s′ (j + 1) j (n - j - 1) → set s′ (n - 1) 0 ≡ cutOut j n s
+unfolding cutOut
+cut-is s s′ j n h l k d =
+    let a : j + (n - j - 1) ≡ n - 1 = omega arith in
+    let b : j + 1 + (n - j - 1) ≡ n = omega arith in
+    let c : n - j - 1 ≡ n - suc j = omega arith in
+    let z : n - 1 < length s′ = omega arith in
+    let e : suc (n - 1) ≡ n = omega arith in
+    let front : take (n - 1) s′ ≡ take j s ++ slice (suc j) n s = rw (a, c, add-one) at (d .front) ∙ rw (drop-take (suc j) n s) in
+    let back : drop n s′ ≡ drop n s = rw b at (d .back) in
+    set-split s′ (n - 1) 0 z ∙ rw (e, front, back) (append-assoc (take j s) (slice (suc j) n s) (0 ∷ drop n s))

@@ -12,7 +12,8 @@ use Rattle.rules.specs.Word.{runWord, wordRun}
 use Rattle.rules.specs.Machine.{SectionOrLine}
 use Rattle.rules.specs.Tables.{successOf}
 use Rattle.words.specs.Runs.{runOf}
-use Rattle.join.specs.Passes.{countOf, mergedWord, wordAt}
+use Rattle.tables.specs.Runs.{countOf}
+use Rattle.join.specs.Passes.{mergedWord, wordAt}
 
 pub falls : (j t : ℕ) → j < t → t - 1 ≡ fall j t
 falls j zero h = absurd (omega arith)

@@ -7,7 +7,7 @@ use native.Mathlib.Numerals.{add-one}
 use lib.ListN.{length, take, drop, getD, set, take-append-drop, length-set, length-append, length-take, length-drop, length-reverse}
 use lib.Seq.{slice, slice-cons, slice-empty, length-slice, length-take-le, take-suc, drop-cons, take-set-le, drop-set-lt, drop-append-le, getD-set-same, append-snoc, take-at, drop-at, drop-drop, take-append-le}
 use Rattle.join.specs.Parts.{turned, exchanged}
-use Rattle.join.proofs.Scan.{set-taken, set-left}
+use Rattle.tables.proofs.InPlace.{set-taken, set-left}
 
 slice-snoc : (a h : ℕ) (l : List ℕ) → a ≤ h → h < length l → slice a (suc h) l ≡ slice a h l ++ (getD l h 0 ∷ [])
 slice-snoc a h l k n =

@@ -1,4 +1,4 @@
--- The machine that words hold, and words that hold one. `sound-held` (Reads) says that the words of a list of sections hold it.
+-- Words that hold sections. `holds-held` (Reads) says that these are the sections read from the words.
 use mathlib.Core.Path.{_≡_}
 use mathlib.Core.List.{List, _++_, map}
 use Prim.Native.Nat.{ℕ, _≤_, _<_}
@@ -6,15 +6,11 @@ use lib.ListN.{length, take, drop}
 use Rattle.rules.specs.Instr.{Instruction}
 use Rattle.rules.specs.Word.{insWord}
 use Rattle.rules.specs.Machine.{SectionOrLine, unfixed, section, line, SectionCode}
-use Rattle.rules.specs.Tables.{readSections, runWords, allCode}
+use Rattle.rules.specs.Tables.{runWords, allCode}
 use Rattle.rules.specs.Operations.{put}
 use Rattle.rules.specs.Demand.{All}
 use Rattle.laws.specs.Words.{InsSmall}
-
--- the sections that the first n section words and the first e instruction words hold
-unfoldable pub held : List ℕ → List ℕ → ℕ → ℕ → List SectionCode
-unfolding readSections
-held s i n e = readSections (take n s) (take e i)
+use Rattle.tables.specs.Runs.{held}
 
 -- what fits the fields of words
 abbrev pub NextSmall : SectionOrLine → Type 0

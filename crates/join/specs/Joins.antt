@@ -20,10 +20,12 @@ use Rattle.rules.specs.Demand.{All}
 use Rattle.laws.specs.Words.{InsSmall, ins-back, run-small}
 use Rattle.words.specs.Runs.{runOf}
 use Rattle.walks.specs.CombineWalk.{lt-or-le, fall-low, fall-high}
-use Rattle.join.specs.Held.{held, NextSmall, SectSmall, Holds, Changed}
+use Rattle.tables.specs.Runs.{countOf, total}
+use Rattle.tables.proofs.Read.{words-length}
+use Rattle.join.specs.Held.{NextSmall, SectSmall, Holds, Changed}
 use Rattle.join.specs.Parts.{exchanged}
-use Rattle.join.specs.Passes.{jumpFallen, countOf, total, mergedWord, cutOut, numbered}
-use Rattle.join.specs.Tells.{Tells, Tell, tell, tells, tell-append, tell-total, tell-length, merged, settles, words-cons, words-append, words-length, code-cons, code-append, code-longer, first-is, count-is}
+use Rattle.join.specs.Passes.{jumpFallen, mergedWord, cutOut, numbered}
+use Rattle.join.specs.Tells.{Tells, Tell, tell, tells, tell-append, tell-total, tell-length, merged, settles, words-cons, words-append, code-cons, code-append, code-longer, first-is, count-is}
 use Rattle.join.specs.Parted.{cut-two, join-parts, code-map, code-before, code-after}
 
 -- ---- words cut and exchanged

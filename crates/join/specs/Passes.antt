@@ -9,20 +9,12 @@ use Rattle.rules.specs.Clean.{renNext}
 use Rattle.rules.specs.Word.{insWord, wordIns, runWord, wordRun}
 use Rattle.rules.specs.Tables.{successOf}
 use Rattle.words.specs.Runs.{runOf}
+use Rattle.tables.specs.Runs.{countOf}
 
 -- an instruction's word after the removal of section j
 unfoldable pub jumpFallen : ℕ → ℕ → ℕ
 unfolding removeSection
 jumpFallen j w = insWord (removeSection j (wordIns w))
-
--- the instructions of a section's word, and of several
-unfoldable pub countOf : ℕ → ℕ
-countOf w = wordRun w .count
-
-unfoldable pub total : List ℕ → ℕ
-unfolding countOf
-total [] = 0
-total (w ∷ ws) = countOf w + total ws
 
 -- the word of the section b joined behind a
 unfoldable pub mergedWord : ℕ → ℕ → ℕ

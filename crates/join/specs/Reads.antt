@@ -13,21 +13,10 @@ use Rattle.rules.specs.Machine.{SectionOrLine, SectionCode}
 use Rattle.rules.specs.Tables.{successOf, runWords, allCode, readSections}
 use Rattle.rules.specs.Demand.{All}
 use Rattle.laws.specs.Words.{InsSmall, ins-back}
-use Rattle.join.specs.Held.{held, SectSmall, Holds}
-use Rattle.join.specs.Passes.{countOf}
+use Rattle.tables.specs.Runs.{countOf, sectionOf, held}
+use Rattle.tables.proofs.Read.{read-nil, read-cons}
+use Rattle.join.specs.Held.{SectSmall, Holds}
 use Rattle.join.specs.Tells.{Tells, Tell, tell, no-code, code-cons}
-
--- the section that a word and the instruction words from its run on hold
-abbrev pub readOne : ℕ → List ℕ → SectionCode
-readOne w is = record { lineStart = isOne (wordRun w .lineStart); instrs = map wordIns (take (countOf w) is); success = successOf (wordRun w) }
-
-pub read-nil : (is : List ℕ) → readSections [] is ≡ []
-unfolding readSections
-read-nil is = refl
-
-pub read-cons : (w : ℕ) (ws is : List ℕ) → readSections (w ∷ ws) is ≡ readOne w is ∷ readSections ws (drop (countOf w) is)
-unfolding readSections countOf
-read-cons w ws is = refl
 
 pub code-back : (c : List Instruction) → All InsSmall c → map wordIns (map insWord c) ≡ c
 code-back [] h = refl
@@ -36,7 +25,7 @@ code-back (i ∷ c) h = rw (ins-back i (h .0), code-back c (h .1))
 same-section : {a a′ : Bool} {b b′ : List Instruction} {c c′ : SectionOrLine} → a ≡ a′ → b ≡ b′ → c ≡ c′ → _≡_ {A = SectionCode} (record { lineStart = a; instrs = b; success = c }) (record { lineStart = a′; instrs = b′; success = c′ })
 same-section p q r = cc
 
-read-one : (w : ℕ) (s : SectionCode) (rest : List ℕ) → Tells w s → SectSmall s → readOne w (map insWord (s .instrs) ++ rest) ≡ s
+read-one : (w : ℕ) (s : SectionCode) (rest : List ℕ) → Tells w s → SectSmall s → sectionOf w (map insWord (s .instrs) ++ rest) ≡ s
 unfolding countOf
 read-one w s rest t h =
     same-section

@@ -20,7 +20,8 @@ use Rattle.rules.specs.Demand.{All}
 use Rattle.laws.specs.Words.{RunSmall, run-back, InsSmall, ins-back}
 use Rattle.words.specs.Runs.{runOf}
 use Rattle.join.specs.Held.{NextSmall, SectSmall}
-use Rattle.join.specs.Passes.{countOf, total, mergedWord, wordAt, numbered}
+use Rattle.tables.specs.Runs.{countOf, total}
+use Rattle.join.specs.Passes.{mergedWord, wordAt, numbered}
 
 -- the word w tells the section s, wherever its run begins
 pub record Tells (w : ℕ) (s : SectionCode) : Type 0 where
@@ -117,10 +118,6 @@ words-append k [] ys = let z : k + 0 ≡ k = omega arith in rw (no-words, no-cod
 words-append k (x ∷ xs) ys =
     let z : k + length (x .instrs) + length (allCode xs) ≡ k + length (allCode (x ∷ xs)) = omega (arith, code-longer x xs) in
     rw (words-cons k x (xs ++ ys), words-cons k x xs, words-append (k + length (x .instrs)) xs ys, z)
-
-pub words-length : (k : ℕ) (ss : List SectionCode) → length (runWords k ss) ≡ length ss
-words-length k [] = rw no-words
-words-length k (s ∷ ss) = rw words-cons (ap suc (words-length (k + length (s .instrs)) ss))
 
 -- the word of a section tells it
 pub tells : (s : SectionCode) (k : ℕ) → SectSmall s → k + length (s .instrs) ≤ 65535 → Tells (runWord (runOf (s .lineStart) (s .success) k (length (s .instrs)))) s

@@ -1,13 +1,15 @@
 // Joining two sections in the words of a machine: S2's run is put behind S1's, S2's word goes, and every target above S2 falls.
 //
 // `combine_sections` is shown equal to `combineAt` of `rules`. It asks that the words hold a machine, runs end to end, and that S2 stands
-// above S1. It touches each section word and each instruction word at most five times.
+// above S1. It touches
+// each section word and each instruction word at most three times, and three section words once more.
 pub mod instructions;
 pub mod sections;
 
 ghost use Prim.Native.Nat.{_<_};
 ghost use Rattle.rules.specs.Combine.{combineAt};
-ghost use Rattle.join.specs.Held.{held, Sound, Changed};
+ghost use Rattle.tables.specs.Runs.{held};
+ghost use Rattle.join.specs.Held.{Sound, Changed};
 use words::instr::Section;
 use words::section::SectionWord;
 

@@ -8,7 +8,9 @@ ghost use lib.ListN.{length, take, drop};
 ghost use Rattle.rules.specs.Instr as Instr;
 ghost use Rattle.rules.specs.Clean.{renNext};
 ghost use Rattle.words.specs.Runs.{successTold};
-ghost use Rattle.join.specs.Passes.{countOf, total, mergedWord, cutOut, numbered};
+ghost use Rattle.tables.specs.Runs.{countOf, total};
+ghost use Rattle.join.specs.Passes.{mergedWord, cutOut, numbered};
+use tables::shift::move_down;
 use words::instr::Section;
 use words::section::SectionOrLine;
 use words::section::SectionWord;
@@ -31,13 +33,8 @@ pub fn remove_word(t: &mut [u64], at: usize, n: usize)
     requires { ⌜ (at < n) × (n ≤ length (now t)) ⌝ }
     ensures { λ r. ⌜ now (t .exit) ≡ cutOut at n (now (t .entry)) ⌝ }
 {
-    let mut i = at;
-    while i + 1 < n {
-        let w = t[i + 1];
-        t[i] = w;
-        i += 1;
-    }
-    t[i] = 0;
+    move_down(t, at + 1, at, n - at - 1);
+    t[n - 1] = 0;
 }
 
 // A section number above a removed one falls by one.

@@ -1,7 +1,7 @@
 use Rattle.join.specs.Joins.{enough, enough-code, joins}
 use Rattle.join.specs.Passes.{cutOut}
 use Rattle.join.specs.Parts.{exchanged}
-use Rattle.join.specs.Held.{held}
+use Rattle.tables.specs.Runs.{held}
 use lib.ListN.{length, take, set, length-set}
 use native.Mathlib.Omega.{arith}
 use mathlib.Core.List.{List}

@@ -1,4 +1,4 @@
-use Rattle.join.proofs.Scan.{map-done, map-more}
+use Rattle.tables.proofs.InPlace.{map-done, map-more}
 use Rattle.join.specs.Passes.{jumpFallen}
 use lib.Seq.{slice}
 use lib.ListN.{length, take, drop, getD, length-set}

@@ -1,6 +1,7 @@
+use Rattle.tables.specs.Runs.{countOf, total}
 use Rattle.join.proofs.Single.{count-field, word-is}
 use Rattle.join.proofs.Scan.{number-done, number-more, total-more}
-use Rattle.join.specs.Passes.{countOf, total, wordAt, numbered}
+use Rattle.join.specs.Passes.{wordAt, numbered}
 use lib.Seq.{slice}
 use lib.ListN.{length, take, drop, getD, length-set}
 use mathlib.Core.List.{_++_, map}
