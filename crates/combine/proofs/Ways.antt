@@ -13,9 +13,9 @@ use Rattle.rules.specs.Word.{wordRun}
 use Rattle.rules.specs.Machine.{SectionOrLine, unfixed, section, line, SectionCode, absent}
 use Rattle.rules.specs.Tables.{successOf}
 use Rattle.rules.specs.Combine.{hit, refs, mayTake, mate}
-use Rattle.join.specs.Held.{held, Sound}
+use Rattle.tables.specs.Runs.{total, held}
+use Rattle.join.specs.Held.{Sound}
 use Rattle.join.specs.Joins.{enough, enough-code}
-use Rattle.join.specs.Passes.{total}
 use Rattle.join.specs.Reads.{holds-tell}
 use Rattle.join.specs.Tells.{tell-total}
 use Rattle.combine.specs.Counting.{nextOf, hits, refsNexts, refsJumps, refs-are}

@@ -11,8 +11,8 @@ use Rattle.rules.specs.Word.{wordRun, wordIns}
 use Rattle.rules.specs.Machine.{SectionOrLine, unfixed, section, line, SectionCode}
 use Rattle.rules.specs.Tables.{successOf, readSections}
 use Rattle.rules.specs.Combine.{hit, refsNext, refsIns, refsCode, refs}
-use Rattle.join.specs.Passes.{countOf, total}
-use Rattle.join.specs.Reads.{read-nil, read-cons}
+use Rattle.tables.specs.Runs.{countOf, total, sectionOf}
+use Rattle.tables.proofs.Read.{read-nil, read-cons}
 
 -- the section that a successor is
 abbrev pub nextOf : SectionOrLine → Option ℕ
@@ -72,13 +72,17 @@ unfolding refsJumps
 jumps-nil t [] h = refl
 jumps-nil t (i ∷ is) h = absurd (omega arith)
 
-total-nil : total [] ≡ 0
+pub total-nil : total [] ≡ 0
 unfolding total
 total-nil = refl
 
-total-cons : (w : ℕ) (ws : List ℕ) → total (w ∷ ws) ≡ countOf w + total ws
+pub total-cons : (w : ℕ) (ws : List ℕ) → total (w ∷ ws) ≡ countOf w + total ws
 unfolding total
 total-cons w ws = refl
+
+pub one-code : (w : ℕ) (is : List ℕ) → sectionOf w is .instrs ≡ map wordIns (take (countOf w) is)
+unfolding countOf
+one-code w is = refl
 
 -- all references of what the words hold
 pub refs-are : (t : ℕ) (ws is : List ℕ) → total ws ≡ length is → refs t (readSections ws is) ≡ refsNexts t ws + refsJumps t is
@@ -87,4 +91,4 @@ refs-are t (w ∷ ws) is h =
     let c = countOf w in
     let l : total ws ≡ length (drop c is) = omega (arith, total-cons w ws, length-drop c is) in
     let two : refsJumps t is ≡ refsJumps t (take c is) + refsJumps t (drop c is) = ap (refsJumps t) (sym (take-append-drop c is)) ∙ jumps-append t (take c is) (drop c is) in
-    rw read-cons (omega (arith, refs-are t ws (drop c is) l, two, code-hits t (take c is), nexts-cons t w ws))
+    rw read-cons (omega (arith, refs-are t ws (drop c is) l, two, ap (refsCode t) (one-code w is) ∙ code-hits t (take c is), nexts-cons t w ws))

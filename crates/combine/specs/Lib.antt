@@ -2,3 +2,4 @@ pub mod Counting
 pub mod Tests
 pub mod Pairs
 pub mod Loop
+pub mod Again

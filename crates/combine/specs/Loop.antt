@@ -14,16 +14,18 @@ use Rattle.rules.specs.Tables.{runWords, allCode}
 use Rattle.rules.specs.Operations.{put, allAhead}
 use Rattle.rules.specs.Combine.{mate, pair, combineAt, combineFuel, combineSections}
 use Rattle.walks.specs.CombineWalk.{Pair}
-use Rattle.join.specs.Held.{held, Holds, Sound, Changed}
-use Rattle.join.specs.Tells.{words-length}
+use Rattle.tables.specs.Runs.{held}
+use Rattle.tables.proofs.Read.{words-length}
+use Rattle.join.specs.Held.{Holds, Sound, Changed}
 use Rattle.join.specs.Reads.{holds-held, sound}
 use Rattle.join.specs.Joins.{join-holds}
 use Rattle.combine.specs.Pairs.{Forward, Low, forward, to-pair, pair-up, low-join, forward-join, low-none, low-pair, low-more, fuel-join, fuel-none}
 
--- the tables hold the sections ss, of which there are r
+-- the tables hold the sections ss, of which there are r, with as many instructions as before
 pub record Combined (s i s′ i′ : List ℕ) (n e : ℕ) (ss : List SectionCode) (r : ℕ) : Type 0 where
   pub tables : Changed s i s′ i′ n e ss
   pub count : r ≡ length ss
+  pub code : e ≡ length (allCode ss)
 
 -- `left` sections ss are left of the n in s and i, none below s1 may take its successor in, and combining them is combining all
 pub record Going (s i : List ℕ) (n e : ℕ) (s′ i′ : List ℕ) (left s1 : ℕ) : Type 0 where
@@ -96,7 +98,7 @@ module _ (s i : List ℕ) (n e : ℕ) (s′ i′ : List ℕ) (left s1 : ℕ) (g 
       let q : s1 ≡ length (g .ss) = omega arith in
       let p = low-none (g .ss) (subst (Low (g .ss)) q (g .low)) in
       let r : g .ss ≡ combineSections (held s i n e) = sym (fuel-none (g .ss) left p) ∙ g .rest in
-      subst (λ (x : List SectionCode). Combined s i s′ i′ n e x left) r (record { tables = g .changed; count = sym z })
+      subst (λ (x : List SectionCode). Combined s i s′ i′ n e x left) r (record { tables = g .changed; count = sym z; code = sym (g .holds .code) })
 
   module _ (h : s1 < left) where
     pub going-on : none ≡ mate (held s′ i′ left e) s1 (getD (held s′ i′ left e) s1 absent .success) → Going s i n e s′ i′ left (s1 + 1)

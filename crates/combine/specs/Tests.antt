@@ -14,12 +14,8 @@ use Rattle.rules.specs.Word.{wordRun}
 use Rattle.rules.specs.Machine.{SectionOrLine, unfixed, section, line, isFixed, SectionCode, absent}
 use Rattle.rules.specs.Tables.{all, successOf, readSections}
 use Rattle.rules.specs.Operations.{fixedHere, nextAhead, allAhead}
-use Rattle.join.specs.Passes.{countOf}
-use Rattle.join.specs.Reads.{readOne, read-nil, read-cons}
-
-unfoldable pub wordFixed : ℕ → Bool
-unfolding successOf
-wordFixed w = isFixed (successOf (wordRun w))
+use Rattle.tables.specs.Runs.{countOf, sectionOf, fixedWord}
+use Rattle.tables.proofs.Read.{read-nil, read-cons, all-nil, all-cons}
 
 -- is section t of the first n words s a line start, or not there?
 unfoldable pub startAt : List ℕ → ℕ → ℕ → Bool
@@ -44,25 +40,13 @@ wordsAhead s n i (w ∷ ws) = cond (wordAhead s n i w) (wordsAhead s n (suc i) w
 
 -- ---- 14
 
-all-nil : {A : Type 0} (p : A → Bool) → all p [] ≡ true
-unfolding all
-all-nil p = refl
-
-all-cons : {A : Type 0} (p : A → Bool) (x : A) (xs : List A) → all p (x ∷ xs) ≡ cond (p x) (all p xs) false
-unfolding all
-all-cons p x xs = by (p x)
-  where
-    by : (b : Bool) → elim b as (λ z. Bool) [ false ↦ false | true ↦ all p xs ] ≡ cond b (all p xs) false
-    by true = refl
-    by false = refl
-
-one-fixed : (w : ℕ) (is : List ℕ) → fixedHere (readOne w is) ≡ wordFixed w
-unfolding fixedHere wordFixed
+one-fixed : (w : ℕ) (is : List ℕ) → fixedHere (sectionOf w is) ≡ fixedWord w
+unfolding fixedHere fixedWord
 one-fixed w is = refl
 
-pub fixed-are : (ws is : List ℕ) → all fixedHere (readSections ws is) ≡ all wordFixed ws
-fixed-are [] is = rw read-nil (all-nil fixedHere ∙ sym (all-nil wordFixed))
-fixed-are (w ∷ ws) is = rw (read-cons, all-cons fixedHere (readOne w is) (readSections ws (drop (countOf w) is)), all-cons wordFixed w ws, one-fixed w is, fixed-are ws (drop (countOf w) is))
+pub fixed-are : (ws is : List ℕ) → all fixedHere (readSections ws is) ≡ all fixedWord ws
+fixed-are [] is = rw read-nil (all-nil fixedHere ∙ sym (all-nil fixedWord))
+fixed-are (w ∷ ws) is = rw (read-cons, all-cons fixedHere (sectionOf w is) (readSections ws (drop (countOf w) is)) _ (one-fixed w is), all-cons fixedWord w ws _ refl, fixed-are ws (drop (countOf w) is))
 
 -- ---- 15
 
@@ -140,4 +124,4 @@ module _ (s i : List ℕ) (n : ℕ) (h : n ≤ length s) where
   ahead-from k [] is = ap (allAhead (readSections (take n s) i) k) (read-nil is) ∙ aheads-nil k
   ahead-from k (w ∷ ws) is =
       ap (allAhead (readSections (take n s) i) k) (read-cons w ws is)
-      ∙ rw (aheads-cons k (readOne w is) (readSections ws (drop (countOf w) is)), words-cons k w ws, next-is k (successOf (wordRun w)), ahead-from (suc k) ws (drop (countOf w) is))
+      ∙ rw (aheads-cons k (sectionOf w is) (readSections ws (drop (countOf w) is)), words-cons k w ws, next-is k (successOf (wordRun w)), ahead-from (suc k) ws (drop (countOf w) is))

@@ -1,16 +1,24 @@
 // The pass: for each section, lowest first, its successor is joined to it while it may be.
 //
-// `combine_sections` is shown equal to `combineSections` of `rules`. It asks that the words hold a machine without links back, runs end to
-// end. `combine` asks nothing. After a join the search goes on where it stands: a join below no section that was passed makes none of
-// them joinable. So there are at most as many joins as sections and as many failed tries, each over every word at most six times: a call
-// touches at most 6 × sections × (sections + instructions) words.
+// `combine_all` is shown equal to `combineSections` of `rules`. It asks that the words hold a machine without links back, runs end to end.
+// After a join the search goes on where it stands, since none that was passed may take its successor in by it. So it tries at most as
+// often as there are sections, and a try reads each word once and a join touches it three times: a call touches at most
+// 4 × sections × (sections + instructions) words, and six more a section. `combine` is shown equal to `combine` of `rules`, and asks
+// nothing; it reads the words of all tables once more.
 ghost use mathlib.Core.Path.{_≡_};
 ghost use mathlib.Core.Bool.{true};
 ghost use Rattle.rules.specs.Combine.{combineSections};
 ghost use Rattle.rules.specs.Operations as Operations;
-ghost use Rattle.join.specs.Held.{held, Sound};
+ghost use Rattle.tables.specs.Lent.{countsTold, tables, answerTold};
+ghost use Rattle.tables.specs.Runs.{held};
+ghost use Rattle.join.specs.Held.{Sound};
 ghost use Rattle.combine.specs.Loop.{Combined};
+use crate::refusals::all_ahead;
+use crate::refusals::all_fixed;
 use crate::search::mate;
+use tables::answer::Answer;
+use tables::check::check;
+use tables::counts::Counts;
 use words::instr::Section;
 use words::instr::Target;
 
@@ -33,4 +41,39 @@ pub fn combine_all(sections: &mut [u64], instructions: &mut [u64], n: usize, e: 
         }
     }
     left
+}
+
+// 12 where the words break the rules, then 14 where a section is unfixed, then 15 where a successor that is no line start lies below its
+// section; else the machine is combined, and the words that are freed are zero.
+pub fn combine(
+    c: Counts,
+    sections: &mut [u64],
+    instructions: &mut [u64],
+    numbers: &[i64],
+    strings: &[u32],
+    pool: &[u8],
+    names: &[u16],
+) -> Answer
+    ensures { λ r. ⌜ (answerTold r, tables (now (sections .exit)) (now (instructions .exit)) (now (numbers .entry)) (now (strings .entry)) (now (pool .entry)) (now (names .entry))) ≡ Operations.combine (tables (now (sections .entry)) (now (instructions .entry)) (now (numbers .entry)) (now (strings .entry)) (now (pool .entry)) (now (names .entry))) (countsTold c) ⌝ }
+{
+    if !check(c, sections, instructions, numbers, strings, pool, names) {
+        return Answer::Refused(Answer::BREAKS_RULES);
+    }
+    if !all_fixed(sections, c.sections) {
+        return Answer::Refused(Answer::IS_UNFIXED);
+    }
+    if !all_ahead(sections, c.sections) {
+        return Answer::Refused(Answer::LINKS_BACK);
+    }
+    let left = combine_all(sections, instructions, c.sections, c.instructions);
+    Answer::Done(Counts {
+        lines: c.lines,
+        sections: left,
+        instructions: c.instructions,
+        numbers: c.numbers,
+        strings: c.strings,
+        characters: c.characters,
+        values: c.values,
+        names: c.names,
+    })
 }

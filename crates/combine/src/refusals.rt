@@ -6,7 +6,8 @@ ghost use mathlib.Core.Path.{_≡_};
 ghost use Prim.Native.Nat.{_≤_, _<_};
 ghost use lib.ListN.{length, take, getD};
 ghost use Rattle.rules.specs.Tables.{all};
-ghost use Rattle.combine.specs.Tests.{wordFixed, wordAhead, wordsAhead};
+ghost use Rattle.tables.specs.Runs.{fixedWord};
+ghost use Rattle.combine.specs.Tests.{wordAhead, wordsAhead};
 use crate::references::contiguous_to;
 use tables::word::is_fixed;
 use words::instr::Target;
@@ -15,7 +16,7 @@ use words::section::SectionWord;
 // Is every one of the first n sections fixed?
 pub fn all_fixed(sections: &[u64], n: usize) -> bool
     requires { ⌜ n ≤ length (now sections) ⌝ }
-    ensures { λ r. ⌜ r ≡ all wordFixed (take n (now (sections .entry))) ⌝ }
+    ensures { λ r. ⌜ r ≡ all fixedWord (take n (now (sections .entry))) ⌝ }
 {
     let mut i: usize = 0;
     while i < n {

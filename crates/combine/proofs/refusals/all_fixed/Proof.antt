@@ -1,4 +1,4 @@
-use Rattle.combine.specs.Tests.{wordFixed}
+use Rattle.tables.specs.Runs.{fixedWord}
 use Rattle.tables.proofs.Walks.{all-done, all-stop, all-more}
 use Rattle.rules.specs.Tables.{all}
 use borrow.Author.Tests.{not-true, not-false}
@@ -15,7 +15,7 @@ use Rattle.combine.proofs.refusals.all_fixed.Lts as lts
 use Rattle.tables.proofs.word.is_fixed.Reads as is-fixed-reads
 
 abbrev Inv-loop : tie.InvT-loop
-Inv-loop sections n i₀ i = (i ≤ n) × (all wordFixed (slice i n sections) ≡ all wordFixed (take n sections))
+Inv-loop sections n i₀ i = (i ≤ n) × (all fixedWord (slice i n sections) ≡ all fixedWord (take n sections))
 
 abbrev μ-loop : tie.MeasureT-loop
 μ-loop sections n i₀ i = n - i
@@ -39,11 +39,11 @@ is-fixed-requires c κs = search needs
 
 -- src/refusals.rt:23:13
 returns : tie.Need-returns Inv-loop μ-loop
-unfolding wordFixed
+unfolding fixedWord
 returns c =
     let l = c .before .before .before .before .loop in
     let a = c .before .before .before .before .before .before .args in
-    all-stop wordFixed (a .sections .now) (l .i) (a .n) (c .before .before .before .loop-test .taken) (c .before .before .before .before .before .before .pre) _ (c .before .is-fixed .ensures) (not-true _ (c .if1 .taken)) ∙ l .inv .1
+    all-stop fixedWord (a .sections .now) (l .i) (a .n) (c .before .before .before .loop-test .taken) (c .before .before .before .before .before .before .pre) _ (c .before .is-fixed .ensures) (not-true _ (c .if1 .taken)) ∙ l .inv .1
 
 -- src/refusals.rt:25:9
 add-i : tie.Need-add-i Inv-loop μ-loop
@@ -55,18 +55,18 @@ loop-less c = search needs
 
 -- src/refusals.rt:21:5
 loop-again : tie.Need-loop-again Inv-loop μ-loop
-unfolding wordFixed
+unfolding fixedWord
 loop-again c =
     let l = c .before .before .before .before .loop in
     let a = c .before .before .before .before .before .before .args in
-    (search needs, all-more wordFixed (a .sections .now) (l .i) (a .n) (c .before .before .before .loop-test .taken) (c .before .before .before .before .before .before .pre) _ (c .before .is-fixed .ensures) (not-false _ (c .if1 .left)) ∙ l .inv .1)
+    (search needs, all-more fixedWord (a .sections .now) (l .i) (a .n) (c .before .before .before .loop-test .taken) (c .before .before .before .before .before .before .pre) _ (c .before .is-fixed .ensures) (not-false _ (c .if1 .left)) ∙ l .inv .1)
 
 -- src/refusals.rt:16:1
 returns-2 : tie.Need-returns-2 Inv-loop μ-loop
 returns-2 c =
     let l = c .before .loop in
     let a = c .before .before .before .args in
-    all-done wordFixed (a .sections .now) (l .i) (a .n) (c .loop-test .left) (l .inv .0) ∙ l .inv .1
+    all-done fixedWord (a .sections .now) (l .i) (a .n) (c .loop-test .left) (l .inv .0) ∙ l .inv .1
 
 pub all-fixed-spec : {M : Type 1} → statement M
 all-fixed-spec =
