@@ -18,6 +18,7 @@ use Rattle.rules.specs.Tables.{Tables, Counts, all, insFits, fieldFits, success
 use Rattle.rules.specs.Demand.{All}
 use Rattle.laws.specs.Words.{InsSmall, ins-small, ins-again, run-small, run-again}
 use Rattle.words.specs.Runs.{run, runOf}
+use Rattle.words.proofs.Sections.{to-line, to-none, to-section}
 use Rattle.tables.specs.Rules.{sectionFits}
 use Rattle.tables.specs.Runs.{countOf, total, sectionOf, held}
 use Rattle.tables.proofs.Sound.{no, Sound as Keeps}
@@ -25,10 +26,7 @@ use Rattle.tables.proofs.Read.{read-nil, read-cons, read-length, all-cons, whol
 use Rattle.join.specs.Held.{NextSmall, SectSmall, Holds, Sound}
 use Rattle.join.specs.Tells.{no-words, words-cons, no-code, code-cons}
 use Rattle.combine.specs.Counting.{total-nil, total-cons, one-code}
-
-both : (a b : Bool) → (a && b) ≡ true → (a ≡ true) × (b ≡ true)
-both true b e = (refl, e)
-both false b e = absurd (no e)
+use Rattle.combine.specs.Pairs.{both}
 
 -- each word of a list has 64 bits
 abbrev pub Wide : List ℕ → Type 0
@@ -85,35 +83,31 @@ flag-again n h = by (eqb n 1) refl
     by false e = rw e (let z = eqb-false n 1 e in omega (arith, z))
 
 module _ (r : Run) where
-  pub to-line : eqb (r .kind) 1 ≡ true → successOf r ≡ line (r .target)
-  unfolding successOf isOne
-  to-line e = rw (e, successOf)
+  is-line : eqb (r .kind) 1 ≡ true → successOf r ≡ line (r .target)
+  is-line e = sym (to-line r (r .kind) (r .target) refl refl (eqb-true _ _ e))
 
-  module _ (e : eqb (r .kind) 1 ≡ false) where
-    to-none : eqb (r .target) mark ≡ true → successOf r ≡ unfixed
-    unfolding successOf isOne
-    to-none d = rw (e, d, successOf)
+  is-none : eqb (r .kind) 1 ≡ false → eqb (r .target) mark ≡ true → successOf r ≡ unfixed
+  is-none e d = sym (to-none r (r .kind) (r .target) refl refl (eqb-false _ _ e) (eqb-true _ _ d))
 
-    to-section : eqb (r .target) mark ≡ false → successOf r ≡ section (r .target)
-    unfolding successOf isOne
-    to-section d = rw (e, d, successOf)
+  is-section : eqb (r .kind) 1 ≡ false → eqb (r .target) mark ≡ false → successOf r ≡ section (r .target)
+  is-section e d = sym (to-section r (r .kind) (r .target) refl refl (eqb-false _ _ e) (eqb-false _ _ d))
 
   kind-again : (b c : Bool) → eqb (r .kind) 1 ≡ b → eqb (r .target) mark ≡ c → r .kind < 2 → kindOf (successOf r) ≡ r .kind
   unfolding kindOf
-  kind-again true c e d h = rw (to-line e) (sym (eqb-true _ _ e))
-  kind-again false true e d h = rw (to-none e d) (let n = eqb-false (r .kind) 1 e in omega (arith, n))
-  kind-again false false e d h = rw (to-section e d) (let n = eqb-false (r .kind) 1 e in omega (arith, n))
+  kind-again true c e d h = rw (is-line e) (sym (eqb-true _ _ e))
+  kind-again false true e d h = rw (is-none e d) (let n = eqb-false (r .kind) 1 e in omega (arith, n))
+  kind-again false false e d h = rw (is-section e d) (let n = eqb-false (r .kind) 1 e in omega (arith, n))
 
   target-again : (b c : Bool) → eqb (r .kind) 1 ≡ b → eqb (r .target) mark ≡ c → targetOf (successOf r) ≡ r .target
   unfolding targetOf
-  target-again true c e d = rw (to-line e)
-  target-again false true e d = rw (to-none e d) (sym (eqb-true _ _ d))
-  target-again false false e d = rw (to-section e d)
+  target-again true c e d = rw (is-line e)
+  target-again false true e d = rw (is-none e d) (sym (eqb-true _ _ d))
+  target-again false false e d = rw (is-section e d)
 
   next-small : (b c : Bool) → eqb (r .kind) 1 ≡ b → eqb (r .target) mark ≡ c → r .target < 65536 → NextSmall (successOf r)
-  next-small true c e d h = rw (to-line e) h
-  next-small false true e d h = rw (to-none e d) tt
-  next-small false false e d h = rw (to-section e d) (let n = eqb-false (r .target) mark d in omega (arith, n))
+  next-small true c e d h = rw (is-line e) h
+  next-small false true e d h = rw (is-none e d) tt
+  next-small false false e d h = rw (is-section e d) (let n = eqb-false (r .target) mark d in omega (arith, n))
 
 code-small : (is : List ℕ) → All InsSmall (map wordIns is)
 code-small [] = tt

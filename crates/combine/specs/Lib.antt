@@ -3,3 +3,4 @@ pub mod Tests
 pub mod Pairs
 pub mod Loop
 pub mod Again
+pub mod Ready

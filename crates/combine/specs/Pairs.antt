@@ -17,6 +17,7 @@ use Rattle.rules.specs.Machine.{SectionOrLine, unfixed, section, line, SectionC
 use Rattle.rules.specs.Clean.{renIns, renNext, ren}
 use Rattle.rules.specs.Combine.{hit, refsNext, refsIns, refsCode, refs, mayTake, mate, pairFrom, pair, without, joined, combineAt, combineFuel, combineSections}
 use Rattle.rules.specs.Operations.{nextAhead, allAhead}
+use Rattle.combine.specs.Tests.{at-elem, at-past}
 use Rattle.walks.specs.CombineWalk.{cond-hit, Pair, true≢false, lt-or-le, fall-low, fall-high, without-fall}
 
 -- ---- numbers fall alike
@@ -219,7 +220,7 @@ module _ (m : List SectionCode) (i j : ℕ) (pr : Pair m i j) (i-in : i < length
 
 -- ---- the search
 
-both : (a b : Bool) → (a && b) ≡ true → (a ≡ true) × (b ≡ true)
+pub both : (a b : Bool) → (a && b) ≡ true → (a ≡ true) × (b ≡ true)
 both true b e = (refl, e)
 both false b e = absurd (true≢false false e refl)
 
@@ -336,18 +337,13 @@ module _ (m : List SectionCode) where
       shift : (t : ℕ) → k + suc t ≡ suc k + t
       shift t = omega arith
 
-  at-elem : (l : List SectionCode) (t : ℕ) (x : Option SectionCode) → getElem? l t ≡ x → getD l t absent ≡ elim x as (λ z. SectionCode) [ none ↦ absent | some s ↦ s ]
-  at-elem [] t x e = rw (← e)
-  at-elem (s ∷ l) zero x e = rw (← e)
-  at-elem (s ∷ l) (suc t) x e = at-elem l t x e
-
   above : (i j : ℕ) → nextAhead m i (section j) ≡ true → getD m j absent .lineStart ≡ false → i ≤ j
   unfolding nextAhead
   above i j h s = go (getElem? m j) refl h
     where
       go : (x : Option SectionCode) → getElem? m j ≡ x → elim x as (λ z. Bool) [ none ↦ true | some s ↦ s .lineStart || leb i j ] ≡ true → i ≤ j
-      go none p q = absurd (true≢false true refl (sym (ap (λ (s : SectionCode). s .lineStart) (at-elem m j none p)) ∙ s))
-      go (some y) p q = leb-true i j (or (y .lineStart) (leb i j) (sym (ap (λ (s : SectionCode). s .lineStart) (at-elem m j (some y) p)) ∙ s) q)
+      go none p q = absurd (true≢false true refl (sym (ap (λ (s : SectionCode). s .lineStart) (at-past m j p)) ∙ s))
+      go (some y) p q = leb-true i j (or (y .lineStart) (leb i j) (sym (ap (λ (s : SectionCode). s .lineStart) (at-elem m j y p)) ∙ s) q)
         where
           or : (a b : Bool) → a ≡ false → (a || b) ≡ true → b ≡ true
           or true b p q = absurd (true≢false true refl p)

@@ -61,12 +61,12 @@ elem-past [] is t h = rw read-nil
 elem-past (w ∷ ws) is zero h = absurd (omega arith)
 elem-past (w ∷ ws) is (suc t) h = rw read-cons (elem-past ws (drop (countOf w) is) t (omega arith))
 
-at-elem : (l : List SectionCode) (t : ℕ) (s : SectionCode) → getElem? l t ≡ some s → getD l t absent ≡ s
+pub at-elem : (l : List SectionCode) (t : ℕ) (s : SectionCode) → getElem? l t ≡ some s → getD l t absent ≡ s
 at-elem [] t s e = let z : _≡_ {A = ℕ} 0 1 = cc in absurd (omega arith)
 at-elem (x ∷ l) zero s e = cc
 at-elem (x ∷ l) (suc t) s e = at-elem l t s e
 
-at-past : (l : List SectionCode) (t : ℕ) → getElem? l t ≡ none → getD l t absent ≡ absent
+pub at-past : (l : List SectionCode) (t : ℕ) → getElem? l t ≡ none → getD l t absent ≡ absent
 at-past [] t e = refl
 at-past (x ∷ l) zero e = let z : _≡_ {A = ℕ} 0 1 = cc in absurd (omega arith)
 at-past (x ∷ l) (suc t) e = at-past l t e

@@ -62,15 +62,15 @@ cut-at p x z r j n h k =
 
 -- ---- what fits fields
 
-all-left : {A : Type 0} (P : A → Type 0) (a b : List A) → All P (a ++ b) → All P a
+pub all-left : {A : Type 0} (P : A → Type 0) (a b : List A) → All P (a ++ b) → All P a
 all-left P [] b h = tt
 all-left P (x ∷ a) b h = (h .0, all-left P a b (h .1))
 
-all-right : {A : Type 0} (P : A → Type 0) (a b : List A) → All P (a ++ b) → All P b
+pub all-right : {A : Type 0} (P : A → Type 0) (a b : List A) → All P (a ++ b) → All P b
 all-right P [] b h = h
 all-right P (x ∷ a) b h = all-right P a b (h .1)
 
-all-append : {A : Type 0} (P : A → Type 0) (a b : List A) → All P a → All P b → All P (a ++ b)
+pub all-append : {A : Type 0} (P : A → Type 0) (a b : List A) → All P a → All P b → All P (a ++ b)
 all-append P [] b p q = q
 all-append P (x ∷ a) b p q = (p .0, all-append P a b (p .1) q)
 

@@ -19,6 +19,8 @@ use Rattle.rules.specs.Combine.{joined}
 use Rattle.rules.specs.Demand.{All}
 use Rattle.laws.specs.Words.{RunSmall, run-back, InsSmall, ins-back}
 use Rattle.words.specs.Runs.{runOf}
+use Rattle.words.proofs.Sections.{flag-lt, kindOf-lt}
+use Rattle.walks.specs.Fits.{flag-one}
 use Rattle.join.specs.Held.{NextSmall, SectSmall}
 use Rattle.tables.specs.Runs.{countOf, total}
 use Rattle.join.specs.Passes.{mergedWord, wordAt, numbered}
@@ -43,22 +45,6 @@ tell-append (u ∷ us) vs (x ∷ xs) ys p q = (p .0, tell-append us vs xs ys (p 
 
 -- ---- the word of fields that fit
 
-flag-lt : (b : Bool) → flag b < 2
-unfolding flag
-flag-lt true = omega arith
-flag-lt false = omega arith
-
-flag-one : (b : Bool) → isOne (flag b) ≡ b
-unfolding flag isOne
-flag-one true = refl
-flag-one false = refl
-
-kind-lt : (x : SectionOrLine) → kindOf x < 2
-unfolding kindOf
-kind-lt unfixed = omega arith
-kind-lt (section t) = omega arith
-kind-lt (line r) = omega arith
-
 target-lt : (x : SectionOrLine) → NextSmall x → targetOf x < 65536
 unfolding targetOf
 target-lt unfixed h = omega arith
@@ -73,7 +59,7 @@ next-back b (line r) f c h = refl
 
 module _ (b : Bool) (x : SectionOrLine) (f c : ℕ) (h : NextSmall x) (p : f < 65536) (q : c < 65536) where
   fields-back : wordRun (runWord (runOf b x f c)) ≡ runOf b x f c
-  fields-back = run-back (runOf b x f c) (flag-lt b, (kind-lt x, (target-lt x h, (p, (q, tt)))))
+  fields-back = run-back (runOf b x f c) (flag-lt b _ refl, (kindOf-lt x _ refl, (target-lt x h, (p, (q, tt)))))
 
   pub start-is : isOne (wordRun (runWord (runOf b x f c)) .lineStart) ≡ b
   start-is = rw fields-back (flag-one b)

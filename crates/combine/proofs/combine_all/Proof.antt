@@ -5,10 +5,10 @@ use Prim.Native.Nat.{ℕ, _≤_, _<_, _+_, _-_}
 use native.Mathlib.Omega.{arith}
 use mathlib.Core.Path.{_≡_, refl, sym, ap, _∙_}
 use borrow.Author.Needs.{needs}
-use Rattle.combine.proofs.passes.combine_all.Statement.{statement}
-use Rattle.combine.proofs.passes.combine_all.Tie as tie
-use Rattle.combine.proofs.passes.combine_all.Reads as reads
-use Rattle.combine.proofs.passes.combine_all.Lts as lts
+use Rattle.combine.proofs.combine_all.Statement.{statement}
+use Rattle.combine.proofs.combine_all.Tie as tie
+use Rattle.combine.proofs.combine_all.Reads as reads
+use Rattle.combine.proofs.combine_all.Lts as lts
 use Rattle.combine.proofs.search.mate.Reads as mate-reads
 use Rattle.join.proofs.combine_sections.Reads as combine-sections-reads
 

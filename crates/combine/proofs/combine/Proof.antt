@@ -7,11 +7,11 @@ use Prim.Native.Nat.{ℕ, _^_, _<_}
 use native.Mathlib.Omega.{arith}
 use mathlib.Core.Path.{_≡_, refl, sym, ap, _∙_}
 use borrow.Author.Needs.{needs}
-use Rattle.combine.proofs.passes.combine.Statement.{statement}
-use Rattle.combine.proofs.passes.combine.Tie as tie
-use Rattle.combine.proofs.passes.combine.Reads as reads
-use Rattle.combine.proofs.passes.combine.Lts as lts
-use Rattle.combine.proofs.passes.combine_all.Reads as combine-all-reads
+use Rattle.combine.proofs.combine.Statement.{statement}
+use Rattle.combine.proofs.combine.Tie as tie
+use Rattle.combine.proofs.combine.Reads as reads
+use Rattle.combine.proofs.combine.Lts as lts
+use Rattle.combine.proofs.combine_all.Reads as combine-all-reads
 use Rattle.combine.proofs.refusals.all_ahead.Reads as all-ahead-reads
 use Rattle.combine.proofs.refusals.all_fixed.Reads as all-fixed-reads
 use Rattle.tables.proofs.check.check.Reads as check-reads
