@@ -19,7 +19,7 @@ use Rattle.rules.specs.Combine.{joined}
 use Rattle.rules.specs.Demand.{All}
 use Rattle.laws.specs.Words.{RunSmall, run-back, InsSmall, ins-back}
 use Rattle.words.specs.Runs.{runOf}
-use Rattle.words.proofs.Sections.{flag-lt, kindOf-lt}
+use Rattle.laws.specs.Success.{flag-lt, kind-lt}
 use Rattle.walks.specs.Fits.{flag-one}
 use Rattle.join.specs.Held.{NextSmall, SectSmall}
 use Rattle.tables.specs.Runs.{countOf, total}
@@ -59,7 +59,7 @@ next-back b (line r) f c h = refl
 
 module _ (b : Bool) (x : SectionOrLine) (f c : ℕ) (h : NextSmall x) (p : f < 65536) (q : c < 65536) where
   fields-back : wordRun (runWord (runOf b x f c)) ≡ runOf b x f c
-  fields-back = run-back (runOf b x f c) (flag-lt b _ refl, (kindOf-lt x _ refl, (target-lt x h, (p, (q, tt)))))
+  fields-back = run-back (runOf b x f c) (flag-lt b, (kind-lt x, (target-lt x h, (p, (q, tt)))))
 
   pub start-is : isOne (wordRun (runWord (runOf b x f c)) .lineStart) ≡ b
   start-is = rw fields-back (flag-one b)
