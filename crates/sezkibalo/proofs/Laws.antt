@@ -8,9 +8,11 @@ use Rattle.rules.specs.Word.{Span}
 use Rattle.rules.specs.Bits.{Res, refused, ok}
 use Rattle.rules.specs.Operations.{Size, size, textSpan}
 use Rattle.rules.specs.Tables.{Tables, Counts}
-use Rattle.sezkibalo.specs.Calls.{sizeAnswer, sizeCall, spotOf, textCall, front, countsRow, rowCounts, countsAnswer, changeCall}
+use Rattle.sezkibalo.specs.Calls.{sizeAnswer, sizeCall, spotOf, textCall, front, countsRow, rowCounts, answerRow, beside, changeCall}
+use Rattle.tables.specs.declared.counts.Counts.{Counts as Lent}
 use Rattle.tables.specs.declared.answer.Answer.{Answer}
-use Rattle.tables.specs.Lent.{answerTold}
+use Rattle.tables.specs.declared.answer.Answer.the-variants.{Done, Refused}
+use Rattle.tables.specs.Lent.{countsTold, answerTold}
 
 -- `counts` is too short
 pub size-short : (s c : List ℕ) → length c < 6 → (11, c) ≡ sizeCall s c
@@ -29,23 +31,20 @@ module _ (f : Tables → Counts → Res Counts × Tables) (c : List ℕ) (t : Ta
   unfolding changeCall
   change-short h = rw (lt-ltb (length c) 8 h, changeCall)
 
-  -- the answer x and the tables u afterwards, where f was called with the counts v
-  pub change-answers : (v : Counts) (x : Res Counts) (u : Tables) → 8 ≤ length c → v ≡ rowCounts c → (x, u) ≡ f t v → countsAnswer x c u ≡ changeCall f c t
+  -- the answer x and the tables u afterwards, where f was called with the counts v; p is the answer as numbers
+  pub change-answers : (v : Counts) (x : Res Counts) (u : Tables) (p : ℕ × List ℕ) → 8 ≤ length c → v ≡ rowCounts c → (x, u) ≡ f t v → p ≡ answerRow x c → beside p u ≡ changeCall f c t
   unfolding changeCall
-  change-answers v x u h r e =
+  change-answers v x u p h r e q =
       let e′ : (x, u) ≡ f t (rowCounts c) = e ∙ ap (f t) r in
-      ap₂ (λ (a : Res Counts) (b : Tables). countsAnswer a c b) (ap (λ (y : Res Counts × Tables). y .0) e′) (ap (λ (y : Res Counts × Tables). y .1) e′) ∙ sym (rw (le-ltb (length c) 8 h, changeCall))
+      ap (λ (z : ℕ × List ℕ). beside z u) q
+      ∙ (ap₂ (λ (a : Res Counts) (b : Tables). beside (answerRow a c) b) (ap (λ (y : Res Counts × Tables). y .0) e′) (ap (λ (y : Res Counts × Tables). y .1) e′) ∙ sym (rw (le-ltb (length c) 8 h, changeCall)))
 
-  -- a refusal, and the counts written
-  pub change-refused : (v : Counts) (n : ℕ) (u : Tables) → 8 ≤ length c → v ≡ rowCounts c → (refused n, u) ≡ f t v → (n, c, u) ≡ changeCall f c t
-  change-refused v n u h r e = change-answers v (refused n) u h r e
+-- what an answer is found to be
+pub told-refused : (a : Answer) (n : ℕ) (c : List ℕ) → a ≡ Refused n → (n, c) ≡ answerRow (answerTold a) c
+told-refused a n c e = ap (λ (z : Answer). answerRow (answerTold z) c) (sym e)
 
-  pub change-done : (v x : Counts) (u : Tables) (k : List ℕ) → 8 ≤ length c → v ≡ rowCounts c → (ok x, u) ≡ f t v → k ≡ front (countsRow x) c → (0, k, u) ≡ changeCall f c t
-  change-done v x u k h r e w = ap (λ (z : List ℕ). (0, z, u)) w ∙ change-answers v (ok x) u h r e
-
--- an answer by what it was found to be
-pub told : (z w : Answer) (u : Tables) (p : Res Counts × Tables) → z ≡ w → (answerTold z, u) ≡ p → (answerTold w, u) ≡ p
-told z w u p e h = ap (λ (y : Answer). (answerTold y, u)) (sym e) ∙ h
+pub told-done : (a : Answer) (d : Lent) (c k : List ℕ) → a ≡ Done d → k ≡ front (countsRow (countsTold d)) c → (0, k) ≡ answerRow (answerTold a) c
+told-done a d c k e w = ap (λ (z : List ℕ). (0, z)) w ∙ ap (λ (z : Answer). answerRow (answerTold z) c) (sym e)
 
 -- ---- text
 

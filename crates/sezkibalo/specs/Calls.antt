@@ -47,13 +47,17 @@ rowCounts c = record {
   values = getD c 6 0;
 }
 
-abbrev pub countsAnswer : Res Counts → List ℕ → Tables → ℕ × List ℕ × Tables
-countsAnswer (refused n) c t = (n, c, t)
-countsAnswer (ok u) c t = (0, front (countsRow u) c, t)
+-- an answer as a number, and the lent list behind it
+abbrev pub answerRow : Res Counts → List ℕ → ℕ × List ℕ
+answerRow (refused n) c = (n, c)
+answerRow (ok u) c = (0, front (countsRow u) c)
+
+abbrev pub beside : ℕ × List ℕ → Tables → ℕ × List ℕ × Tables
+beside p t = (p .0, p .1, t)
 
 -- an operation f on the machine in the tables: 11 before all else where `counts` has no room for eight
 unfoldable pub changeCall : (Tables → Counts → Res Counts × Tables) → List ℕ → Tables → ℕ × List ℕ × Tables
-changeCall f c t = elim (ltb (length c) 8) [ true ↦ (Refusal.noRoom, c, t) | false ↦ countsAnswer (f t (rowCounts c) .0) c (f t (rowCounts c) .1) ]
+changeCall f c t = elim (ltb (length c) 8) [ true ↦ (Refusal.noRoom, c, t) | false ↦ beside (answerRow (f t (rowCounts c) .0) c) (f t (rowCounts c) .1) ]
 
 -- ---- text
 

@@ -5,8 +5,9 @@ ghost use mathlib.Core.Path.{_≡_};
 ghost use Prim.Native.Nat.{_≤_};
 ghost use lib.ListN.{length};
 ghost use Rattle.tree.specs.Files.{sized};
-ghost use Rattle.tables.specs.Lent.{countsTold};
-ghost use Rattle.sezkibalo.specs.Calls.{front, sizeRow, countsRow, rowCounts};
+ghost use Rattle.tables.specs.Lent.{countsTold, answerTold};
+ghost use Rattle.sezkibalo.specs.Calls.{front, sizeRow, countsRow, rowCounts, answerRow};
+use tables::answer::Answer;
 use tables::counts::Counts;
 use tree::Sizes;
 
@@ -29,7 +30,7 @@ pub fn put_sizes(counts: &mut [u64], z: Sizes)
 }
 
 // The eight counts.
-pub fn put_counts(counts: &mut [u64], c: Counts)
+fn put_counts(counts: &mut [u64], c: Counts)
     requires { ⌜ 8 ≤ length (now counts) ⌝ }
     ensures { λ r. ⌜ now (counts .exit) ≡ front (countsRow (countsTold c)) (now (counts .entry)) ⌝ }
 {
@@ -56,5 +57,19 @@ pub fn read_counts(counts: &[u64]) -> Counts
         characters: counts[5] as usize,
         values: counts[6] as usize,
         names: counts[7] as usize,
+    }
+}
+
+// An answer as a number; its counts go to the lent numbers.
+pub fn answered(counts: &mut [u64], a: Answer) -> u64
+    requires { ⌜ 8 ≤ length (now counts) ⌝ }
+    ensures { λ r. ⌜ (r, now (counts .exit)) ≡ answerRow (answerTold a) (now (counts .entry)) ⌝ }
+{
+    match a {
+        Answer::Refused(n) => n,
+        Answer::Done(d) => {
+            put_counts(counts, d);
+            0
+        }
     }
 }

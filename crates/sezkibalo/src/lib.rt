@@ -11,7 +11,7 @@ ghost use Rattle.tables.specs.Lent.{tables};
 ghost use Rattle.sezkibalo.specs.Calls.{spotOf, sizeCall, changeCall, textCall};
 use counts::EIGHT;
 use counts::SIX;
-use counts::put_counts;
+use counts::answered;
 use counts::put_sizes;
 use counts::read_counts;
 use tables::answer::Answer;
@@ -72,13 +72,28 @@ pub extern "C" fn sezkibalo_clean(
     }
     let c = read_counts(counts);
     let a = clean::clean::clean(c, sections, instructions, numbers, strings, pool, names);
-    match a {
-        Answer::Refused(n) => n,
-        Answer::Done(d) => {
-            put_counts(counts, d);
-            0
-        }
+    answered(counts, a)
+}
+
+// Joins the sections of a machine until no pair is left.
+#[no_mangle]
+pub extern "C" fn sezkibalo_combine(
+    counts: &mut [u64],
+    sections: &mut [u64],
+    instructions: &mut [u64],
+    numbers: &mut [i64],
+    strings: &mut [u32],
+    pool: &[u8],
+    names: &[u16],
+) -> u64
+    ensures { λ r. ⌜ (r, now (counts .exit), tables (now (sections .exit)) (now (instructions .exit)) (now (numbers .exit)) (now (strings .exit)) (now (pool .entry)) (now (names .entry))) ≡ changeCall Operations.combine (now (counts .entry)) (tables (now (sections .entry)) (now (instructions .entry)) (now (numbers .entry)) (now (strings .entry)) (now (pool .entry)) (now (names .entry))) ⌝ }
+{
+    if counts.len() < EIGHT {
+        return Answer::NO_ROOM;
     }
+    let c = read_counts(counts);
+    let a = combine::combine(c, sections, instructions, numbers, strings, pool, names);
+    answered(counts, a)
 }
 
 // The place of a string register's text in the pool, start × 2^32 + length; empty, at the pool's end, where register or word is bad. A pool that
