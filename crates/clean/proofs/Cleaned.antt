@@ -14,10 +14,11 @@ use Rattle.rules.specs.Tables.{successOf, readSections, flag, kindOf, targetOf,
 use Rattle.rules.specs.Clean.{renIns, renNext, ren, keep}
 use Rattle.words.specs.Runs as Runs
 use Rattle.tables.specs.Runs.{fixedWord, countOf, total, sectionOf}
-use Rattle.tables.proofs.Read.{read-nil, read-cons, words-nil, words-cons}
+use Rattle.tables.proofs.Read.{read-cons, words-cons, word-is, count-is, code-cons}
+use Rattle.tables.proofs.InPlace.{map-append}
 use Rattle.clean.specs.Pass.{withFirst, withTarget, withJump, bump, numbered, packedWord, packed, moved}
 use Rattle.clean.proofs.Fields.{both-start, both-run-count, both-count, both-success, both-fixed}
-use Rattle.clean.proofs.Numbers.{bump-le, map-append}
+use Rattle.clean.proofs.Numbers.{bump-le}
 
 keep-cons : (w : ℕ) (ws is : List ℕ) → keep (readSections (w ∷ ws) is) ≡ cond (fixedWord w) (sectionOf w is ∷ keep (readSections ws (drop (countOf w) is))) (keep (readSections ws (drop (countOf w) is)))
 unfolding fixedWord
@@ -33,20 +34,8 @@ map-drop g zero xs = refl
 map-drop g (suc n) [] = refl
 map-drop g (suc n) (x ∷ xs) = map-drop g n xs
 
-count-is : (w : ℕ) → wordRun w .count ≡ countOf w
-unfolding countOf
-count-is w = refl
-
 fewer : (w : ℕ) (ws is : List ℕ) → countOf w + total ws ≤ length is → total ws ≤ length (drop (countOf w) is)
 fewer w ws is l = simp length-drop (omega arith)
-
-word-by : (k : ℕ) (s : SectionCode) (l : Bool) (o : SectionOrLine) (c : ℕ) → l ≡ s .lineStart → o ≡ s .success → c ≡ length (s .instrs) → runWord (Runs.runOf l o k c) ≡ runWord (runOf s k)
-unfolding runOf
-word-by k s l o c p q r = rw (p, q, r)
-
-code-cons : (s : SectionCode) (ss : List SectionCode) → allCode (s ∷ ss) ≡ s .instrs ++ allCode ss
-unfolding allCode
-code-cons s ss = refl
 
 module _ (f : ℕ → ℕ) (fb : (t : ℕ) → f t < mark) where
   sec-length : (w : ℕ) (is : List ℕ) → countOf w ≤ length is → length (ren f (sectionOf w is) .instrs) ≡ countOf w
@@ -56,7 +45,7 @@ module _ (f : ℕ → ℕ) (fb : (t : ℕ) → f t < mark) where
   sec-word : (k x w : ℕ) (is : List ℕ) → x < 65536 → countOf w ≤ length is → packedWord k (withTarget f (withFirst x w)) ≡ runWord (runOf (ren f (sectionOf w is)) k)
   unfolding packedWord
   sec-word k x w is h l =
-      word-by k (ren f (sectionOf w is)) _ _ _ (ap isOne (both-start f fb x w h)) (both-success f fb x w h) (both-run-count f fb x w h ∙ count-is w ∙ sym (sec-length w is l))
+      word-is k (ren f (sectionOf w is)) _ _ _ (ap isOne (both-start f fb x w h)) (both-success f fb x w h) (both-run-count f fb x w h ∙ count-is w ∙ sym (sec-length w is l))
 
   jumps : (xs : List ℕ) → map insWord (map (renIns f) (map wordIns xs)) ≡ map (withJump f) xs
   unfolding withJump

@@ -19,13 +19,9 @@ use Rattle.rules.specs.Clean.{keep, rank}
 use Rattle.rules.specs.Operations.{fixedHere, jumpFixed, jumpsFixed}
 use Rattle.tables.specs.Runs.{fixedWord, countOf, total, sectionOf}
 use Rattle.tables.proofs.Read.{read-nil, read-cons, read-length, all-nil, all-cons}
-use Rattle.tables.proofs.InPlace.{set-taken, set-left, set-rest}
+use Rattle.tables.proofs.InPlace.{map-append, set-taken, set-left, set-rest}
 use Rattle.clean.specs.Pass.{firstOf, withFirst, bump, bumps, numbered, newNumber, jumpIn}
 use Rattle.clean.proofs.Fields.{first-is}
-
-pub map-append : {A B : Type 0} (g : A → B) (xs ys : List A) → map g (xs ++ ys) ≡ map g xs ++ map g ys
-map-append g [] ys = refl
-map-append g (x ∷ xs) ys = ap (λ (l : List _). g x ∷ l) (map-append g xs ys)
 
 -- ---- the loop that numbers
 

@@ -4,7 +4,7 @@ use mathlib.Core.Bool.{Bool, true, false, cond}
 use mathlib.Core.List.{List, [], _∷_, _++_, map}
 use Prim.Native.Nat.{ℕ, zero, suc, _+_, _-_, _^_, _<_, _≤_, max}
 use native.Mathlib.Omega.{arith}
-use native.Mathlib.Nat.{max-eq-left, sub-self}
+use native.Mathlib.Nat.{max-eq-left, max-eq-right, sub-self}
 use lib.IntN.{ℤ, pos}
 use lib.Dec.{eqb, leb}
 use lib.ListN.{length, take, drop, getD, replicate, take-append-drop}
@@ -87,6 +87,14 @@ put-back z n t h =
 pub put-is : (n m : ℕ) (ws t t′ : List ℕ) → take m t′ ≡ ws → length ws ≡ m → m ≤ n → drop n t′ ≡ drop n t → take m t′ ++ (replicate (n - m) 0 ++ drop n t′) ≡ put 0 n ws t
 unfolding put
 put-is n m ws t t′ a b c d = let z : max n m ≡ n = max-eq-left c in rw (a, d, b, z)
+
+-- m words that are no fewer than n
+pub put-over : {A : Type 0} (z : A) (n m : ℕ) (ws t t′ : List A) → take m t′ ≡ ws → length ws ≡ m → n ≤ m → drop m t′ ≡ drop m t → t′ ≡ put z n ws t
+unfolding put
+put-over z n m ws t t′ a b c d =
+    let e : n - m ≡ 0 = omega arith in
+    let f : max n m ≡ m = max-eq-right c in
+    rw (b, e, f) (sym (take-append-drop m t′) ∙ rw (a, d))
 
 pub put-same : (n : ℕ) (ws t t′ : List ℕ) → length ws ≤ n → drop n t ≡ drop n t′ → put 0 n ws t ≡ put 0 n ws t′
 unfolding put

@@ -9,6 +9,10 @@ use lib.ListN.{length, take, drop, getD, set, replicate, take-append-drop, lengt
 use lib.Seq.{slice, slice-cons, slice-empty, take-suc-set, take-set-lt, drop-set-lt, append-snoc, take-suc, getD-drop, drop-drop, take-nil}
 use Rattle.tables.specs.Runs.{Down}
 
+pub map-append : {A B : Type 0} (g : A → B) (xs ys : List A) → map g (xs ++ ys) ≡ map g xs ++ map g ys
+map-append g [] ys = refl
+map-append g (x ∷ xs) ys = ap (λ (l : List _). g x ∷ l) (map-append g xs ys)
+
 -- a store at i below n
 module _ {A : Type 0} (s : List A) (i n : ℕ) (v : A) (h : i < n) (l : n ≤ length s) where
   pub set-taken : take (i + 1) (set s i v) ≡ take i s ++ (v ∷ [])

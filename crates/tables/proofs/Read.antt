@@ -8,8 +8,9 @@ use lib.Dec.{eqb}
 use lib.ListN.{length, take, drop}
 use borrow.Author.Tests.{eqb-true}
 use Rattle.rules.specs.Word.{wordRun, runWord}
-use Rattle.rules.specs.Machine.{SectionCode}
-use Rattle.rules.specs.Tables.{Tables, Counts, all, runsFit, readSections, runOf, runWords}
+use Rattle.rules.specs.Machine.{SectionOrLine, SectionCode}
+use Rattle.rules.specs.Tables.{Tables, Counts, all, runsFit, readSections, runOf, runWords, allCode}
+use Rattle.words.specs.Runs as Runs
 use Rattle.tables.specs.Rules.{sectionFits}
 use Rattle.tables.specs.Runs.{countOf, total, sectionOf}
 use Rattle.tables.proofs.Sound.{no, Sound}
@@ -39,6 +40,23 @@ pub words-length : (k : ℕ) (ss : List SectionCode) → length (runWords k ss) 
 unfolding runWords
 words-length k [] = refl
 words-length k (s ∷ ss) = ap suc (words-length (k + length (s .instrs)) ss)
+
+-- a section's word by its parts
+pub word-is : (k : ℕ) (s : SectionCode) (l : Bool) (o : SectionOrLine) (c : ℕ) → l ≡ s .lineStart → o ≡ s .success → c ≡ length (s .instrs) → runWord (Runs.runOf l o k c) ≡ runWord (runOf s k)
+unfolding runOf
+word-is k s l o c p q r = rw (p, q, r)
+
+pub count-is : (w : ℕ) → wordRun w .count ≡ countOf w
+unfolding countOf
+count-is w = refl
+
+pub code-nil : allCode [] ≡ []
+unfolding allCode
+code-nil = refl
+
+pub code-cons : (s : SectionCode) (ss : List SectionCode) → allCode (s ∷ ss) ≡ s .instrs ++ allCode ss
+unfolding allCode
+code-cons s ss = refl
 
 -- ---- all
 
