@@ -183,7 +183,7 @@ module _ (ss is : List ℕ) (ns : List ℤ) (ts : List ℕ) (n e k₀ s₀ p : �
       regs-now = rw sections-are at (r .regs)
 
       module _ (is″ : List ℕ) (ns″ : List ℤ) (ts″ : List ℕ) (b″ k″ s″ : ℕ) (d : Ran is′ ns′ ts′ is″ ns″ ts″ p b k s b″ k″ s″ a (a + c)) (il : length is″ ≡ length is′) (nl : length ns″ ≡ length ns′) (tl : length ts″ ≡ length ts′)
-        (l : Bool) (q : SectionOrLine) (m v : ℕ) (v-is : v ≡ runWord (W.runOf l q b m)) (l-is : l ≡ isOne (wordRun (getD ss′ j 0) .lineStart)) (q-is : q ≡ successOf (wordRun (getD ss′ j 0))) (m-is : m ≡ b″ - b) where
+          (l : Bool) (q : SectionOrLine) (m v : ℕ) (v-is : v ≡ runWord (W.runOf l q b m)) (l-is : l ≡ isOne (wordRun (getD ss′ j 0) .lineStart)) (q-is : q ≡ successOf (wordRun (getD ss′ j 0))) (m-is : m ≡ b″ - b) where
         m-count : m ≡ length (ran .0)
         m-count = let x = d .count in omega arith
 
@@ -215,8 +215,8 @@ module _ (ss is : List ℕ) (ns : List ℤ) (ts : List ℕ) (n e k₀ s₀ p : �
             let m2 = r .more-strings in
             record {
               sections =
-                rw (set-taken ss′ j (j + 1) v j-next j-fits, v-word, d .regs, d .count)
-                (append-snoc (take j ss′) (runWord (runOf (withCode here (ran .0)) b)) (runWords (b + length (ran .0)) (others (ran .1) .0)) ∙ words-now);
+                  rw (set-taken ss′ j (j + 1) v j-next j-fits, v-word, d .regs, d .count)
+                  (append-snoc (take j ss′) (runWord (runOf (withCode here (ran .0)) b)) (runWords (b + length (ran .0)) (others (ran .1) .0)) ∙ words-now);
               code = rw (d .code, d .regs) (append-assoc (take b is′) (map insWord (ran .0)) (map insWord (allCode (others (ran .1) .0))) ∙ code-now);
               regs = rw (d .regs) regs-now;
               section-rest = drop-set-lt (j + 1) ss′ j v j-next ∙ drop-later j (j + 1) ss′ ss (r .section-rest) u;

@@ -54,6 +54,27 @@ pub extern "C" fn sezkibalo_size(tree: &[u8], counts: &mut [u64]) -> u64
     }
 }
 
+// Replaces the duplicate operands of a machine.
+#[no_mangle]
+pub extern "C" fn sezkibalo_replace(
+    counts: &mut [u64],
+    sections: &mut [u64],
+    instructions: &mut [u64],
+    numbers: &mut [i64],
+    strings: &mut [u32],
+    pool: &[u8],
+    names: &[u16],
+) -> u64
+    ensures { λ r. ⌜ (r, now (counts .exit), tables (now (sections .exit)) (now (instructions .exit)) (now (numbers .exit)) (now (strings .exit)) (now (pool .entry)) (now (names .entry))) ≡ changeCall Operations.replace (now (counts .entry)) (tables (now (sections .entry)) (now (instructions .entry)) (now (numbers .entry)) (now (strings .entry)) (now (pool .entry)) (now (names .entry))) ⌝ }
+{
+    if counts.len() < EIGHT {
+        return Answer::NO_ROOM;
+    }
+    let c = read_counts(counts);
+    let a = replace::replace::replace(c, sections, instructions, numbers, strings, pool, names);
+    answered(counts, a)
+}
+
 // Removes the unfixed sections of a machine.
 #[no_mangle]
 pub extern "C" fn sezkibalo_clean(
