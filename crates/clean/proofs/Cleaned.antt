@@ -8,11 +8,9 @@ use lib.ListN.{length, take, drop, length-map, length-drop}
 use lib.Seq.{length-take-le}
 use Rattle.rules.specs.Bits.{isOne}
 use Rattle.rules.specs.Constants.{mark}
-use Rattle.rules.specs.Word.{Run, wordRun, runWord, wordIns, insWord}
-use Rattle.rules.specs.Machine.{SectionOrLine, SectionCode, isFixed}
-use Rattle.rules.specs.Tables.{successOf, readSections, flag, kindOf, targetOf, runOf, runWords, allCode}
-use Rattle.rules.specs.Clean.{renIns, renNext, ren, keep}
-use Rattle.words.specs.Runs as Runs
+use Rattle.rules.specs.Word.{wordRun, runWord, wordIns, insWord}
+use Rattle.rules.specs.Tables.{readSections, runOf, runWords, allCode}
+use Rattle.rules.specs.Clean.{renIns, ren, keep}
 use Rattle.tables.specs.Runs.{fixedWord, countOf, total, sectionOf}
 use Rattle.tables.proofs.Read.{read-cons, words-cons, word-is, count-is, code-cons}
 use Rattle.tables.proofs.InPlace.{map-append}

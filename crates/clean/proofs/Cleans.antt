@@ -1,20 +1,19 @@
 -- `clean` of the rules at each way out of the code. Assumes nothing.
-use mathlib.Core.Path.{_≡_, refl, sym, ap, _∙_}
+use mathlib.Core.Path.{_≡_, sym, ap, _∙_}
 use mathlib.Core.Bool.{Bool, true, false}
-use mathlib.Core.List.{List, map}
-use Prim.Native.Nat.{ℕ, _^_, _<_, _≤_}
+use mathlib.Core.List.{List}
+use Prim.Native.Nat.{ℕ, _^_, _<_}
 use lib.IntN.{pos}
-use lib.ListN.{length, take, getD, length-map}
+use lib.ListN.{take, getD, length-map}
 use lib.Seq.{length-take-le, take-take}
-use Rattle.rules.specs.Bits.{Res, refused, ok}
+use Rattle.rules.specs.Bits.{refused, ok}
 use Rattle.rules.specs.Refusal as Refusal
-use Rattle.rules.specs.Word.{wordSpan}
 use Rattle.rules.specs.Machine.{Machine}
 use Rattle.rules.specs.Tables.{Tables, Counts, all, fits, countsOf}
-use Rattle.rules.specs.Clean.{cleanSections, cleaned}
+use Rattle.rules.specs.Clean.{cleaned}
 use Rattle.rules.specs.Operations.{put, write, fixedHere, jumpsFixed, cleanIn, clean}
-use Rattle.tables.specs.Runs.{fixedWord, total, held}
-use Rattle.tables.proofs.Sound.{Sound, sound}
+use Rattle.tables.specs.Runs.{fixedWord, held}
+use Rattle.tables.proofs.Sound.{sound}
 use Rattle.tables.proofs.Read.{whole-total}
 use Rattle.tables.proofs.Change.{machineOf, change-12, change-no, change-ok, counts-of, written, put-back, strings-back}
 use Rattle.clean.specs.Pass.{jumpIn, Cleaned}

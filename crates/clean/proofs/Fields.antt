@@ -7,7 +7,7 @@ use lib.Dec.{eqb}
 use borrow.Author.Tests.{ne-eqb, eqb-true}
 use Rattle.rules.specs.Bits.{isOne}
 use Rattle.rules.specs.Constants.{mark}
-use Rattle.rules.specs.Word.{Run, wordRun, runWord}
+use Rattle.rules.specs.Word.{Run, wordRun}
 use Rattle.rules.specs.Machine.{SectionOrLine, unfixed, section, line, isFixed}
 use Rattle.rules.specs.Tables.{successOf, kindOf, targetOf}
 use Rattle.rules.specs.Clean.{renNext}

@@ -12,7 +12,7 @@ use lib.Seq.{slice, slice-cons, slice-empty, length-take-le, take-all, getD-take
 use borrow.Author.Tests.{ltb-true, ltb-false}
 use Rattle.rules.specs.Instr.{isJump}
 use Rattle.rules.specs.Constants.{mark}
-use Rattle.rules.specs.Word.{Run, wordRun, wordIns}
+use Rattle.rules.specs.Word.{wordRun, wordIns}
 use Rattle.rules.specs.Machine.{SectionCode, isFixed, absent}
 use Rattle.rules.specs.Tables.{successOf, readSections, all}
 use Rattle.rules.specs.Clean.{keep, rank}

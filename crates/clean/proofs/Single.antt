@@ -1,17 +1,17 @@
 -- Single words that clean makes anew or tests: each way out of the code's tests. Assumes nothing.
-use mathlib.Core.Path.{_≡_, refl, sym, ap, _∙_}
+use mathlib.Core.Path.{_≡_, _∙_}
 use mathlib.Core.Bool.{Bool, true, false, cond}
-use mathlib.Core.List.{List, [], _∷_, _++_, map}
+use mathlib.Core.List.{List, map}
 use Prim.Native.Nat.{ℕ, zero, suc, pred, _+_, _-_, _<_, _≤_}
 use native.Mathlib.Omega.{arith}
-use lib.ListN.{length, getD, List·getD-map}
+use lib.ListN.{getD, List·getD-map}
 use lib.Dec.{ltb}
 use borrow.Author.Tests.{lt-ltb, le-ltb}
 use Rattle.rules.specs.Bits.{isOne}
 use Rattle.rules.specs.Constants.{mark}
 use Rattle.rules.specs.Instr.{isJump, aimed}
-use Rattle.rules.specs.Word.{Run, wordRun, runWord, wordIns, insWord}
-use Rattle.rules.specs.Machine.{SectionOrLine, unfixed, section, line, isFixed}
+use Rattle.rules.specs.Word.{wordRun, runWord, wordIns, insWord}
+use Rattle.rules.specs.Machine.{SectionOrLine, section, isFixed}
 use Rattle.rules.specs.Tables.{successOf}
 use Rattle.rules.specs.Clean.{renNext}
 use Rattle.laws.specs.Words.{run-small}
@@ -67,6 +67,11 @@ module _ (f : ℕ → ℕ) (w r : ℕ) where
 pub jump-is : (f : ℕ → ℕ) (w a m r : ℕ) → a ≡ wordIns w .fst → m ≡ f a → r ≡ insWord (aimed m (wordIns w)) → r ≡ withJump f w
 unfolding withJump
 jump-is f w a m r a-is m-is r-is = r-is ∙ rw (m-is, a-is)
+
+-- any other instruction as it is
+pub jump-none : (f : ℕ → ℕ) (w r : ℕ) (j : Bool) → j ≡ isJump (wordIns w) → j ≡ false → r ≡ insWord (wordIns w) → r ≡ withJump f w
+unfolding withJump
+jump-none f w r j j-is h e = e ∙ rw (← j-is, h)
 
 pub packed-word : (k w : ℕ) (l : Bool) (s : SectionOrLine) (c r : ℕ) → r ≡ runWord (runOf l s k c) → l ≡ isOne (wordRun w .lineStart) → s ≡ successOf (wordRun w) → c ≡ wordRun w .count → r ≡ packedWord k w
 unfolding packedWord

@@ -1,7 +1,7 @@
 -- The parts of clean put together. Assumes nothing.
 use mathlib.Core.Path.{_≡_, refl, sym, ap, _∙_, fun-ext}
 use mathlib.Core.List.{List, [], _∷_, _++_, map}
-use Prim.Native.Nat.{ℕ, zero, suc, _+_, _-_, _<_, _≤_}
+use Prim.Native.Nat.{ℕ, _+_, _-_, _<_, _≤_}
 use native.Mathlib.Omega.{arith}
 use lib.ListN.{length, take, drop, replicate, length-map}
 use lib.Seq.{length-take-le, take-at, drop-at}
@@ -9,7 +9,6 @@ use Rattle.rules.specs.Constants.{mark}
 use Rattle.rules.specs.Word.{insWord}
 use Rattle.rules.specs.Tables.{runWords, allCode}
 use Rattle.rules.specs.Clean.{rank, cleanSections}
-use Rattle.rules.specs.Operations.{put}
 use Rattle.tables.specs.Runs.{total, held}
 use Rattle.tables.proofs.Read.{read-length, words-length}
 use Rattle.tables.proofs.Change.{put-is, put-same}

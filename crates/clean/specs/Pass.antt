@@ -2,13 +2,12 @@
 use mathlib.Core.Bool.{Bool, true, false, cond}
 use mathlib.Core.Path.{_≡_}
 use mathlib.Core.List.{List, [], _∷_, _++_, map}
-use Prim.Native.Nat.{ℕ, zero, suc, pred, _+_, _-_, _≤_}
+use Prim.Native.Nat.{ℕ, pred, _+_, _-_, _≤_}
 use lib.Dec.{ltb}
 use lib.ListN.{length, take, drop, getD}
 use Rattle.rules.specs.Bits.{isOne}
 use Rattle.rules.specs.Instr.{isJump}
 use Rattle.rules.specs.Word.{wordRun, runWord, wordIns, insWord}
-use Rattle.rules.specs.Machine.{SectionCode}
 use Rattle.rules.specs.Tables.{successOf, runWords, allCode}
 use Rattle.rules.specs.Clean.{renIns, renNext, rank, cleanSections}
 use Rattle.rules.specs.Operations.{put}

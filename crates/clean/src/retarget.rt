@@ -31,6 +31,9 @@ fn with_jump(sections: &[u64], n: usize, kept: u16, w: Instruction) -> Instructi
     requires { ⌜ n ≤ length (now sections) ⌝ }
     ensures { λ r. ⌜ r .0 ≡ withJump (newNumber (map firstOf (now (sections .entry))) n kept) (w .0) ⌝ }
 {
+    if !w.is_jump() {
+        return w.plain();
+    }
     w.aimed(new_number(sections, n, kept, Section(w.fst())))
 }
 

@@ -1,11 +1,11 @@
 -- `replace` of the rules at each way out of the code. Assumes nothing.
 use mathlib.Core.Path.{_≡_, refl, sym, ap, _∙_}
 use mathlib.Core.Bool.{Bool, true, false, cond, _&&_}
-use mathlib.Core.List.{List, [], _∷_, _++_, map}
-use Prim.Native.Nat.{ℕ, zero, suc, _+_, _^_, _<_, _≤_}
+use mathlib.Core.List.{List, [], _∷_, map}
+use Prim.Native.Nat.{ℕ, _+_, _^_, _<_}
 use native.Mathlib.Omega.{arith}
 use lib.Dec.{leb}
-use lib.IntN.{ℤ, pos}
+use lib.IntN.{ℤ}
 use lib.ListN.{length, take, drop, getD, length-append, length-map, length-drop, take-append-drop}
 use lib.Seq.{length-take-le}
 use borrow.Author.Tests.{leb-true}
@@ -13,18 +13,18 @@ use Rattle.rules.specs.Bits.{Res, refused, ok}
 use Rattle.rules.specs.Constants.{mostCount}
 use Rattle.rules.specs.Refusal as Refusal
 use Rattle.rules.specs.Instr.{Instruction}
-use Rattle.rules.specs.Word.{wordRun, wordIns, wordSpan, spanWord}
+use Rattle.rules.specs.Word.{wordRun, wordIns}
 use Rattle.rules.specs.Machine.{SectionCode, Machine}
 use Rattle.rules.specs.Tables.{Tables, Counts, readSections, fits, countsOf}
 use Rattle.rules.specs.Replace.{ruleOf, Regs, replaceIns, replaceCode, replaceSections, replaced}
-use Rattle.rules.specs.Operations.{put, write, slots, replaceIn, replace}
+use Rattle.rules.specs.Operations.{write, slots, replaceIn, replace}
 use Rattle.laws.specs.Words.{ins-small}
 use Rattle.words.specs.Told.{replacedOf, replacedBy}
 use Rattle.words.proofs.Rules.{replaced-is}
 use Rattle.words.specs.declared.instr.Replaced.{Replaced}
 use Rattle.words.specs.declared.instr.Replaced.the-variants.{Stays, Goes, Turns, Number, Blank}
 use Rattle.tables.specs.Runs.{countOf, total, sectionOf, held}
-use Rattle.tables.proofs.Sound.{no, Sound, sound}
+use Rattle.tables.proofs.Sound.{no, sound}
 use Rattle.tables.proofs.Read.{read-nil, read-cons, count-is, whole-total}
 use Rattle.tables.proofs.Change.{machineOf, change-12, change-no, change-ok, counts-of, written, put-back, strings-back}
 use Rattle.replace.specs.Pass.{numbersBy, stringsBy, numberOf, stringOf, sums, AddsAll, regsOf, wholeOf, Ready, Rewrote}

@@ -1,13 +1,12 @@
 -- A run replaced, one turn after the other: what is done, then what is left to do, is all that was to do. Assumes nothing.
 use mathlib.Core.Path.{_≡_, refl, sym, ap, _∙_}
 use mathlib.Core.List.{List, [], _∷_, _++_, map, append-assoc, append-nil}
-use Prim.Native.Nat.{ℕ, zero, suc, _+_, _≤_, _<_}
+use Prim.Native.Nat.{ℕ, _+_, _≤_, _<_}
 use native.Mathlib.Omega.{arith}
 use native.Mathlib.Numerals.{add-one}
 use lib.IntN.{ℤ}
 use lib.ListN.{length, take, drop, getD, length-append, length-map}
 use lib.Seq.{slice, slice-cons, slice-empty, length-take-le}
-use Rattle.rules.specs.Constants.{mostCount}
 use Rattle.rules.specs.Instr.{Instruction}
 use Rattle.rules.specs.Word.{wordIns, insWord}
 use Rattle.rules.specs.Replace.{Regs, replaceIns, replaceCode}

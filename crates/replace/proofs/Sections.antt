@@ -2,27 +2,25 @@
 use mathlib.Core.Path.{_≡_, refl, sym, ap, _∙_}
 use mathlib.Core.Bool.{Bool}
 use mathlib.Core.List.{List, [], _∷_, _++_, map, append-assoc, append-nil}
-use Prim.Native.Nat.{ℕ, zero, suc, _+_, _-_, _≤_, _<_}
+use Prim.Native.Nat.{ℕ, suc, _+_, _-_, _≤_, _<_}
 use native.Mathlib.Omega.{arith}
 use native.Mathlib.Numerals.{add-one}
 use lib.IntN.{ℤ, pos}
-use lib.ListN.{length, take, drop, getD, set, replicate, length-append, length-map, length-set, take-append-drop}
+use lib.ListN.{length, take, drop, getD, set, replicate, length-map, length-set, take-append-drop}
 use lib.Seq.{slice, slice-cons, slice-empty, append-snoc, drop-drop, drop-set-lt, take-take, length-take-le}
 use Rattle.rules.specs.Bits.{isOne}
-use Rattle.rules.specs.Constants.{mostCount}
 use Rattle.rules.specs.Instr.{Instruction}
-use Rattle.rules.specs.Word.{wordRun, runWord, wordIns, insWord, spanWord, wordSpan, Span}
+use Rattle.rules.specs.Word.{wordRun, runWord, wordIns, insWord, spanWord, wordSpan}
 use Rattle.rules.specs.Machine.{SectionOrLine, SectionCode}
 use Rattle.rules.specs.Tables.{successOf, readSections, runOf, runWords, allCode}
 use Rattle.rules.specs.Replace.{Regs, replaceCode, withCode, replaceSections}
-use Rattle.rules.specs.Operations.{put}
 use Rattle.words.specs.Runs as W
 use Rattle.tables.specs.Runs.{countOf, total, sectionOf, held}
-use Rattle.tables.proofs.InPlace.{map-append, set-taken, drop-take, drop-later, slice-same, head-same}
+use Rattle.tables.proofs.InPlace.{map-append, set-taken, drop-take, drop-later, head-same}
 use Rattle.tables.proofs.Read.{read-nil, read-cons, read-length, words-nil, words-cons, words-length, word-is, count-is, code-nil, code-cons}
 use Rattle.tables.proofs.Change.{put-is, put-over}
 use Rattle.replace.specs.Pass.{numberOf, stringOf, sums, regsOf, Plain, Open, Ran, wholeOf, Ready, Rewritten, Rewrote}
-use Rattle.replace.proofs.Adding.{sums-nil, sums-cons, sums-append}
+use Rattle.replace.proofs.Adding.{sums-append}
 
 no-total : total [] ≡ 0
 unfolding total

@@ -1,10 +1,10 @@
 -- One instruction replaced, at each answer of dup_replace_with. Assumes nothing.
 use mathlib.Core.Path.{_≡_, refl, sym, ap, _∙_}
 use mathlib.Core.List.{List, [], _∷_, _++_, map, append-nil}
-use Prim.Native.Nat.{ℕ, zero, suc, _+_, _^_, _≤_, _<_}
+use Prim.Native.Nat.{ℕ, _+_, _≤_, _<_}
 use native.Mathlib.Omega.{arith}
 use lib.IntN.{ℤ}
-use lib.ListN.{length, take, drop, getD, set, length-map}
+use lib.ListN.{length, take, set, length-map}
 use lib.Pow.{pow-pos}
 use lib.Seq.{length-take-le}
 use Rattle.rules.specs.Instr.{Instruction, ins₁, ins₂}
@@ -21,7 +21,7 @@ use Rattle.words.specs.declared.number.Number as Z
 use Rattle.words.specs.declared.instr.Replaced.{Replaced}
 use Rattle.words.specs.declared.instr.Replaced.the-variants.{Stays, Goes, Turns, Number, Blank}
 use Rattle.tables.proofs.InPlace.{map-append, set-taken, set-rest}
-use Rattle.replace.specs.Pass.{numbersBy, stringsBy, numberOf, stringOf, regsOf, Plain, NumberAdded, BlankAdded, Stepped}
+use Rattle.replace.specs.Pass.{regsOf, Plain, NumberAdded, BlankAdded, Stepped}
 use Rattle.replace.proofs.Adding.{numbers-are, strings-are}
 
 abbrev made : List ℤ → List Span → Regs

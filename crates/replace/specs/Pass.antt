@@ -1,7 +1,7 @@
 -- The passes of replace on words: what each asks, and what it leaves in the tables.
 use mathlib.Core.Path.{_≡_}
 use mathlib.Core.List.{List, [], _∷_, _++_, map}
-use Prim.Native.Nat.{ℕ, zero, suc, _+_, _≤_, _<_}
+use Prim.Native.Nat.{ℕ, _+_, _≤_, _<_}
 use lib.IntN.{ℤ, pos}
 use lib.ListN.{length, take, drop, set}
 use lib.Seq.{slice}
@@ -10,7 +10,7 @@ use Rattle.rules.specs.Instr.{ins₂}
 use Rattle.rules.specs.Opcode.{CopyNum, CopyStr}
 use Rattle.rules.specs.Word.{wordIns, insWord, wordSpan, spanWord}
 use Rattle.rules.specs.Machine.{SectionCode}
-use Rattle.rules.specs.Tables.{Counts, runWords, allCode}
+use Rattle.rules.specs.Tables.{runWords, allCode}
 use Rattle.rules.specs.Replace.{Regs, ruleOf, replaceIns, replaceCode, replaceSections}
 use Rattle.rules.specs.Operations.{put}
 use Rattle.words.specs.Told.{replacedOf}

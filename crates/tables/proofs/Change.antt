@@ -1,12 +1,12 @@
 -- A pass over a machine at each way out: the machine that the words hold, and `change` of `rules`. Assumes nothing.
-use mathlib.Core.Path.{_≡_, refl, sym, ap, _∙_}
-use mathlib.Core.Bool.{Bool, true, false, cond}
+use mathlib.Core.Path.{_≡_, refl, sym, _∙_}
+use mathlib.Core.Bool.{Bool, true, false}
 use mathlib.Core.List.{List, [], _∷_, _++_, map}
 use Prim.Native.Nat.{ℕ, zero, suc, _+_, _-_, _^_, _<_, _≤_, max}
 use native.Mathlib.Omega.{arith}
 use native.Mathlib.Nat.{max-eq-left, max-eq-right, sub-self}
 use lib.IntN.{ℤ, pos}
-use lib.Dec.{eqb, leb}
+use lib.Dec.{eqb}
 use lib.ListN.{length, take, drop, getD, replicate, take-append-drop}
 use lib.Seq.{length-take-le}
 use borrow.Author.Tests.{eqb-true}

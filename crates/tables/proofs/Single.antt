@@ -1,6 +1,6 @@
 -- The rules on one word and on the counts, over plain variables: each way out of the code's tests. Assumes nothing.
-use mathlib.Core.Path.{_≡_, refl, sym, ap, _∙_}
-use mathlib.Core.Bool.{Bool, true, false, not, _&&_, _||_}
+use mathlib.Core.Path.{_≡_}
+use mathlib.Core.Bool.{Bool, false, not, _&&_, _||_}
 use mathlib.Core.Option.{Option, none, some}
 use Prim.Native.Nat.{ℕ, _+_, _<_, _≤_}
 use lib.Dec.{eqb, ltb, leb}
@@ -10,7 +10,7 @@ use Rattle.rules.specs.Bits.{isOne}
 use Rattle.rules.specs.Constants.{mostLines, mostCount}
 use Rattle.rules.specs.Instr.{Kind, kinds}
 use Rattle.rules.specs.Word.{wordIns, insSpare, wordRun, runSpare, Run, wordSpan, spanSpare}
-use Rattle.rules.specs.Machine.{SectionOrLine, isFixed}
+use Rattle.rules.specs.Machine.{isFixed}
 use Rattle.rules.specs.Tables.{Tables, Counts, countFits, countsFit, fieldFits, insFits, successOf, successFits, startFits, spanFits}
 use Rattle.words.specs.Told.{kindTold, kindsTold}
 use Rattle.words.specs.declared.instr.Kind as K

@@ -1,16 +1,14 @@
 -- What a machine's words say where they keep the rules. Assumes nothing.
-use mathlib.Core.Path.{_≡_, refl, sym, ap, _∙_}
+use mathlib.Core.Path.{_≡_, refl}
 use mathlib.Core.Bool.{Bool, true, false, _&&_}
 use mathlib.Core.List.{List, [], _∷_}
-use Prim.Native.Nat.{ℕ, suc, _+_, _<_, _≤_}
+use Prim.Native.Nat.{ℕ, _<_, _≤_}
 use native.Mathlib.Omega.{arith}
-use lib.Dec.{eqb, ltb, leb}
+use lib.Dec.{ltb, leb}
 use lib.ListN.{length, take}
-use borrow.Author.Tests.{leb-true, ltb-true, eqb-true}
+use borrow.Author.Tests.{leb-true, ltb-true}
 use Rattle.rules.specs.Constants.{mostLines, mostCount}
-use Rattle.rules.specs.Word.{wordRun}
 use Rattle.rules.specs.Tables.{Tables, Counts, all, insFits, runsFit, spanFits, nameFits, countFits, countsFit, wordsFit, fits}
-use Rattle.tables.specs.Rules.{sectionFits}
 
 pub no : _≡_ {A = Bool} false true → ⊥
 no e = let z : _≡_ {A = ℕ} 0 1 = cc in omega arith

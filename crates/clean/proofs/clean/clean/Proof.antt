@@ -1,39 +1,29 @@
+-- `clean` meets its contract. Assumes nothing.
+use lib.ListN.{getD}
+use borrow.Author.Tests.{not-true, not-false}
+use native.Mathlib.Omega.{arith}
+use mathlib.Core.Path.{sym, _∙_}
+use Prim.Native.Nat.{ℕ, _<_, _-_, _^_}
+use borrow.Author.Needs.{needs}
 use Rattle.tables.proofs.Read.{whole-total}
 use Rattle.tables.proofs.Sound.{sound}
 use Rattle.clean.proofs.Cleans.{clean-12, clean-lines, clean-jumps, clean-done}
-use lib.ListN.{length, getD}
-use borrow.Author.Tests.{not-true, not-false}
-use native.Mathlib.Omega.{arith}
-use mathlib.Core.Path.{_≡_, refl, sym, ap, _∙_}
-use Prim.Native.Nat.{ℕ, _≤_, _<_, _-_, _*_, _+_, _^_}
-use borrow.Author.Needs.{needs}
 use Rattle.clean.proofs.clean.clean.Statement.{statement}
 use Rattle.clean.proofs.clean.clean.Tie as tie
-use Rattle.clean.proofs.clean.clean.Reads as reads
-use Rattle.clean.proofs.clean.clean.Lts as lts
-use Rattle.clean.proofs.clean.jumps_fixed.Reads as jumps-fixed-reads
-use Rattle.clean.proofs.clean.lines_fixed.Reads as lines-fixed-reads
-use Rattle.clean.proofs.remove_unfixed_sections.remove_unfixed_sections.Reads as remove-unfixed-sections-reads
-use Rattle.tables.proofs.check.check.Reads as check-reads
 
--- src/clean.rt:73:9
 check-requires : tie.Need-check-requires
 check-requires c κs = search needs
 
--- src/clean.rt:74:9
 same-length : tie.Need-same-length
 same-length c = search needs
 
--- src/clean.rt:74:9
 same-length-2 : tie.Need-same-length-2
 same-length-2 c = search needs
 
--- src/clean.rt:74:9
 returns : tie.Need-returns
 returns c =
     clean-12 _ _ (sym (c .before .check .ensures) ∙ not-true _ (c .if1 .taken))
 
--- src/clean.rt:76:9
 lines-fixed-requires : tie.Need-lines-fixed-requires
 lines-fixed-requires c κs =
     let k = sound _ _ (sym (c .before .before .check .ensures) ∙ not-false _ (c .before .if1 .left)) .counts in
@@ -41,53 +31,42 @@ lines-fixed-requires c κs =
     let b = k .sections in
     omega arith
 
--- src/clean.rt:77:9
 same-length-3 : tie.Need-same-length-3
 same-length-3 c = search needs
 
--- src/clean.rt:77:9
 same-length-4 : tie.Need-same-length-4
 same-length-4 c = search needs
 
--- src/clean.rt:77:9
 returns-2 : tie.Need-returns-2
 returns-2 c =
     clean-lines _ _ (sym (c .before .before .before .before .check .ensures) ∙ not-false _ (c .before .before .before .if1 .left)) _ (c .before .lines-fixed .ensures) (not-true _ (c .if2 .taken))
 
--- src/clean.rt:79:9
 jumps-fixed-requires : tie.Need-jumps-fixed-requires
 jumps-fixed-requires c κs =
     let k = sound _ _ (sym (c .before .before .before .before .before .before .check .ensures) ∙ not-false _ (c .before .before .before .before .before .if1 .left)) .counts in (k .sections, k .instrs)
 
--- src/clean.rt:80:9
 same-length-5 : tie.Need-same-length-5
 same-length-5 c = search needs
 
--- src/clean.rt:80:9
 same-length-6 : tie.Need-same-length-6
 same-length-6 c = search needs
 
--- src/clean.rt:80:9
 returns-3 : tie.Need-returns-3
 returns-3 c =
     clean-jumps _ _ (sym (c .before .before .before .before .before .before .before .before .check .ensures) ∙ not-false _ (c .before .before .before .before .before .before .before .if1 .left)) _ (c .before .before .before .before .before .lines-fixed .ensures) (not-false _ (c .before .before .before .before .if2 .left)) _ (c .before .jumps-fixed .ensures) (not-true _ (c .if3 .taken))
 
--- src/clean.rt:82:9
 remove-unfixed-sections-requires : tie.Need-remove-unfixed-sections-requires
 remove-unfixed-sections-requires c κs =
     let s = sound _ _ (sym (c .before .before .before .before .before .before .before .before .before .before .check .ensures) ∙ not-false _ (c .before .before .before .before .before .before .before .before .before .if1 .left)) in
     let k = s .counts in
     (k .sections, k .sections-few, k .instrs, k .instrs-few, whole-total _ _ s)
 
--- src/clean.rt:62:1
 same-length-7 : tie.Need-same-length-7
 same-length-7 c = search needs
 
--- src/clean.rt:62:1
 same-length-8 : tie.Need-same-length-8
 same-length-8 c = search needs
 
--- src/clean.rt:62:1
 returns-4 : tie.Need-returns-4
 returns-4 c =
     let small : (i : ℕ) → getD (c .before .before .before .before .before .before .before .before .before .before .before .before .before .before .before .before .before .before .before .before .before .before .before .args .strings .now) i 0 < 2 ^ 32 = λ i. omega (arith, c .before .before .before .before .before .before .before .before .before .before .before .before .before .before .before .before .before .before .before .before .shared-slice-known .given i) in

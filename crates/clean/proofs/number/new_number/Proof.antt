@@ -1,42 +1,31 @@
-use Rattle.clean.proofs.Single.{num-past, num-at}
+-- `new_number` meets its contract. Assumes nothing.
 use borrow.Author.Needs.{needs}
+use Rattle.clean.proofs.Single.{num-past, num-at}
 use Rattle.clean.proofs.number.new_number.Statement.{statement}
 use Rattle.clean.proofs.number.new_number.Tie as tie
-use Rattle.clean.proofs.number.new_number.Reads as reads
-use Rattle.clean.proofs.number.new_number.Lts as lts
-use Rattle.clean.proofs.number.one_less.Reads as one-less-reads
-use Rattle.words.proofs.section.SectionWord.first.Reads as first-reads
 
--- src/number.rt:50:14
 cast-at : tie.Need-cast-at
 cast-at c = search needs
 
--- src/number.rt:52:24
 one-less-requires : tie.Need-one-less-requires
 one-less-requires c κs = search needs
 
--- src/number.rt:52:9
 returns : tie.Need-returns
 returns c =
     num-past _ _ _ _ _ (c .before .if1 .taken) (c .one-less .ensures)
 
--- src/number.rt:54:25
 mul-t9 : tie.Need-mul-t9
 mul-t9 c = search needs
 
--- src/number.rt:54:25
 shared-slice-read-t11 : tie.Need-shared-slice-read-t11
 shared-slice-read-t11 c = search needs
 
--- src/number.rt:55:22
 first-requires : tie.Need-first-requires
 first-requires c κs = search needs
 
--- src/number.rt:55:13
 one-less-requires-2 : tie.Need-one-less-requires-2
 one-less-requires-2 c κs = search needs
 
--- src/number.rt:46:1
 returns-2 : tie.Need-returns-2
 returns-2 c =
     num-at (c .before .before .before .before .before .before .args .sections .now) (c .before .before .before .before .before .before .args .n) (c .before .before .before .before .before .before .args .kept) (c .before .before .before .before .before .before .args .t .0) _ _ (c .before .before .before .if1 .left) (c .before .first .ensures) (c .one-less2 .ensures)

@@ -1,19 +1,15 @@
+-- `number` meets its contract. Assumes nothing.
+use lib.Seq.{slice}
+use lib.ListN.{length, take, drop, length-set}
+use native.Mathlib.Omega.{arith}
+use mathlib.Core.List.{_++_}
+use mathlib.Core.Path.{_≡_, refl, sym, _∙_}
+use Prim.Native.Nat.{_≤_, _-_, _+_}
+use borrow.Author.Needs.{needs}
 use Rattle.clean.specs.Pass.{withFirst, numbered, bumps}
 use Rattle.clean.proofs.Numbers.{number-done, number-more, bumps-done, bumps-more}
-use lib.Seq.{slice, map-set-same}
-use lib.ListN.{length, take, drop, getD, set, length-set}
-use borrow.Author.Tests.{not-true, not-false}
-use native.Mathlib.Omega.{arith}
-use mathlib.Core.List.{List, _++_, map}
-use mathlib.Core.Path.{_≡_, refl, sym, ap, _∙_}
-use Prim.Native.Nat.{ℕ, _≤_, _<_, _-_, _*_, _+_}
-use borrow.Author.Needs.{needs}
 use Rattle.clean.proofs.number.number.Statement.{statement}
 use Rattle.clean.proofs.number.number.Tie as tie
-use Rattle.clean.proofs.number.number.Reads as reads
-use Rattle.clean.proofs.number.number.Lts as lts
-use Rattle.clean.proofs.number.bump.Reads as bump-reads
-use Rattle.words.proofs.section.SectionWord.with_first.Reads as with-first-reads
 
 abbrev Inv-loop : tie.InvT-loop
 Inv-loop sections₀ n i₀ k₀ sections i k = (i ≤ n) × (k ≤ i) × (length sections ≡ length sections₀) × (take i sections ++ (numbered k (slice i n sections) ++ drop n sections) ≡ numbered 0 (take n sections₀) ++ drop n sections₀) × (bumps k (slice i n sections) ≡ bumps 0 (take n sections₀))
@@ -21,44 +17,34 @@ Inv-loop sections₀ n i₀ k₀ sections i k = (i ≤ n) × (k ≤ i) × (lengt
 abbrev μ-loop : tie.MeasureT-loop
 μ-loop sections₀ n i₀ k₀ sections i k = n - i
 
--- src/number.rt:30:5
 loop-holds : tie.Need-loop-holds Inv-loop μ-loop
 loop-holds c =
     (search needs, search needs, refl, refl, refl)
 
--- src/number.rt:31:29
 mul-t7 : tie.Need-mul-t7 Inv-loop μ-loop
 mul-t7 c = search needs
 
--- src/number.rt:31:29
 slice-read-t9 : tie.Need-slice-read-t9 Inv-loop μ-loop
 slice-read-t9 c = search needs
 
--- src/number.rt:32:9
 bump-requires : tie.Need-bump-requires Inv-loop μ-loop
 bump-requires c κs = search needs
 
--- src/number.rt:33:23
 with-first-requires : tie.Need-with-first-requires Inv-loop μ-loop
 with-first-requires c κs = search needs
 
--- src/number.rt:33:9
 mul-sections : tie.Need-mul-sections Inv-loop μ-loop
 mul-sections c = search needs
 
--- src/number.rt:33:9
 slice-write-sections : tie.Need-slice-write-sections Inv-loop μ-loop
 slice-write-sections c = search needs
 
--- src/number.rt:34:9
 add-i : tie.Need-add-i Inv-loop μ-loop
 add-i c = search needs
 
--- src/number.rt:30:5
 loop-less : tie.Need-loop-less Inv-loop μ-loop
 loop-less c = search needs
 
--- src/number.rt:30:5
 loop-again : tie.Need-loop-again Inv-loop μ-loop
 unfolding withFirst
 loop-again c =
@@ -71,11 +57,9 @@ loop-again c =
     let len : n ≤ length (l .sections) = omega arith in
     (search needs, search needs, simp length-set (i .2), number-more (l .sections) (l .i) n (l .k) h len _ _ (k .0) (c .with-first .ensures) ∙ i .3, bumps-more (l .sections) (l .i) n (l .k) h len _ _ (k .0) (c .with-first .ensures) ∙ i .4)
 
--- src/number.rt:24:1
 same-length : tie.Need-same-length Inv-loop μ-loop
 same-length c = search needs
 
--- src/number.rt:24:1
 returns : tie.Need-returns Inv-loop μ-loop
 returns c =
     let l = c .before .loop in

@@ -1,18 +1,15 @@
+-- `retarget_instructions` meets its contract. Assumes nothing.
+use lib.Seq.{slice}
+use lib.ListN.{length, take, drop, length-set}
+use native.Mathlib.Omega.{arith}
+use mathlib.Core.List.{_++_, map}
+use mathlib.Core.Path.{_≡_, refl, sym, _∙_}
+use Prim.Native.Nat.{_≤_, _-_, _+_}
+use borrow.Author.Needs.{needs}
 use Rattle.clean.specs.Pass.{withJump, newNumber, firstOf}
 use Rattle.tables.proofs.InPlace.{map-done, map-more}
-use lib.Seq.{slice, map-set-same}
-use lib.ListN.{length, take, drop, getD, set, length-set}
-use borrow.Author.Tests.{not-true, not-false}
-use native.Mathlib.Omega.{arith}
-use mathlib.Core.List.{List, _++_, map}
-use mathlib.Core.Path.{_≡_, refl, sym, ap, _∙_}
-use Prim.Native.Nat.{ℕ, _≤_, _<_, _-_, _*_, _+_}
-use borrow.Author.Needs.{needs}
 use Rattle.clean.proofs.retarget.retarget_instructions.Statement.{statement}
 use Rattle.clean.proofs.retarget.retarget_instructions.Tie as tie
-use Rattle.clean.proofs.retarget.retarget_instructions.Reads as reads
-use Rattle.clean.proofs.retarget.retarget_instructions.Lts as lts
-use Rattle.clean.proofs.retarget.with_jump.Reads as with-jump-reads
 
 abbrev Inv-loop : tie.InvT-loop
 Inv-loop sections instructions₀ n kept e i₀ instructions i = (i ≤ e) × (length instructions ≡ length instructions₀) × (take i instructions ++ (map (withJump (newNumber (map firstOf sections) n kept)) (slice i e instructions) ++ drop e instructions) ≡ map (withJump (newNumber (map firstOf sections) n kept)) (take e instructions₀) ++ drop e instructions₀)
@@ -20,40 +17,31 @@ Inv-loop sections instructions₀ n kept e i₀ instructions i = (i ≤ e) × (l
 abbrev μ-loop : tie.MeasureT-loop
 μ-loop sections instructions₀ n kept e i₀ instructions i = e - i
 
--- src/retarget.rt:43:5
 loop-holds : tie.Need-loop-holds Inv-loop μ-loop
 loop-holds c =
     (search needs, refl, refl)
 
--- src/retarget.rt:44:58
 mul-t9 : tie.Need-mul-t9 Inv-loop μ-loop
 mul-t9 c = search needs
 
--- src/retarget.rt:44:58
 slice-read-t11 : tie.Need-slice-read-t11 Inv-loop μ-loop
 slice-read-t11 c = search needs
 
--- src/retarget.rt:44:13
 with-jump-requires : tie.Need-with-jump-requires Inv-loop μ-loop
 with-jump-requires c κs = search needs
 
--- src/retarget.rt:45:9
 mul-instructions : tie.Need-mul-instructions Inv-loop μ-loop
 mul-instructions c = search needs
 
--- src/retarget.rt:45:9
 slice-write-instructions : tie.Need-slice-write-instructions Inv-loop μ-loop
 slice-write-instructions c = search needs
 
--- src/retarget.rt:46:9
 add-i : tie.Need-add-i Inv-loop μ-loop
 add-i c = search needs
 
--- src/retarget.rt:43:5
 loop-less : tie.Need-loop-less Inv-loop μ-loop
 loop-less c = search needs
 
--- src/retarget.rt:43:5
 loop-again : tie.Need-loop-again Inv-loop μ-loop
 loop-again c =
     let l = c .before .before .before .loop in
@@ -63,11 +51,9 @@ loop-again c =
     let len : e ≤ length (l .instructions) = omega arith in
     (search needs, simp length-set (i .1), map-more _ (l .instructions) (l .i) e (c .before .before .loop-test .taken) len _ (c .with-jump .ensures) ∙ i .2)
 
--- src/retarget.rt:32:1
 same-length : tie.Need-same-length Inv-loop μ-loop
 same-length c = search needs
 
--- src/retarget.rt:32:1
 returns : tie.Need-returns Inv-loop μ-loop
 returns c =
     sym (map-done _ _ _ _ (c .loop-test .left) (c .before .loop .inv .0)) ∙ c .before .loop .inv .2

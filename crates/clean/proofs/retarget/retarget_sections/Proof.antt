@@ -1,20 +1,17 @@
-use Rattle.clean.proofs.Fields.{first-kept}
-use Rattle.clean.proofs.Single.{number-small}
+-- `retarget_sections` meets its contract. Assumes nothing.
+use lib.Seq.{slice, map-set-same}
+use lib.ListN.{length, take, drop, getD, length-set}
+use native.Mathlib.Omega.{arith}
+use mathlib.Core.List.{_++_, map}
+use mathlib.Core.Path.{_≡_, refl, sym, ap, _∙_}
+use Prim.Native.Nat.{_≤_, _<_, _-_, _+_}
+use borrow.Author.Needs.{needs}
 use Rattle.clean.specs.Pass.{withTarget, newNumber, firstOf}
 use Rattle.tables.proofs.InPlace.{map-done, map-more}
-use lib.Seq.{slice, map-set-same}
-use lib.ListN.{length, take, drop, getD, set, length-set}
-use borrow.Author.Tests.{not-true, not-false}
-use native.Mathlib.Omega.{arith}
-use mathlib.Core.List.{List, _++_, map}
-use mathlib.Core.Path.{_≡_, refl, sym, ap, _∙_}
-use Prim.Native.Nat.{ℕ, _≤_, _<_, _-_, _*_, _+_}
-use borrow.Author.Needs.{needs}
+use Rattle.clean.proofs.Fields.{first-kept}
+use Rattle.clean.proofs.Single.{number-small}
 use Rattle.clean.proofs.retarget.retarget_sections.Statement.{statement}
 use Rattle.clean.proofs.retarget.retarget_sections.Tie as tie
-use Rattle.clean.proofs.retarget.retarget_sections.Reads as reads
-use Rattle.clean.proofs.retarget.retarget_sections.Lts as lts
-use Rattle.clean.proofs.retarget.with_target.Reads as with-target-reads
 
 abbrev Inv-loop : tie.InvT-loop
 Inv-loop sections₀ n kept i₀ sections i = (i ≤ n) × (length sections ≡ length sections₀) × (map firstOf sections ≡ map firstOf sections₀) × (take i sections ++ (map (withTarget (newNumber (map firstOf sections₀) n kept)) (slice i n sections) ++ drop n sections) ≡ map (withTarget (newNumber (map firstOf sections₀) n kept)) (take n sections₀) ++ drop n sections₀)
@@ -22,40 +19,31 @@ Inv-loop sections₀ n kept i₀ sections i = (i ≤ n) × (length sections ≡ 
 abbrev μ-loop : tie.MeasureT-loop
 μ-loop sections₀ n kept i₀ sections i = n - i
 
--- src/retarget.rt:55:5
 loop-holds : tie.Need-loop-holds Inv-loop μ-loop
 loop-holds c =
     (search needs, refl, refl, refl)
 
--- src/retarget.rt:56:29
 mul-t8 : tie.Need-mul-t8 Inv-loop μ-loop
 mul-t8 c = search needs
 
--- src/retarget.rt:56:29
 slice-read-t10 : tie.Need-slice-read-t10 Inv-loop μ-loop
 slice-read-t10 c = search needs
 
--- src/retarget.rt:57:13
 with-target-requires : tie.Need-with-target-requires Inv-loop μ-loop
 with-target-requires c κs = search needs
 
--- src/retarget.rt:58:9
 mul-sections : tie.Need-mul-sections Inv-loop μ-loop
 mul-sections c = search needs
 
--- src/retarget.rt:58:9
 slice-write-sections : tie.Need-slice-write-sections Inv-loop μ-loop
 slice-write-sections c = search needs
 
--- src/retarget.rt:59:9
 add-i : tie.Need-add-i Inv-loop μ-loop
 add-i c = search needs
 
--- src/retarget.rt:55:5
 loop-less : tie.Need-loop-less Inv-loop μ-loop
 loop-less c = search needs
 
--- src/retarget.rt:55:5
 loop-again : tie.Need-loop-again Inv-loop μ-loop
 loop-again c =
     let l = c .before .before .before .before .loop in
@@ -69,11 +57,9 @@ loop-again c =
     let v : c .with-target .result .0 ≡ withTarget (newNumber (map firstOf s) n k) (getD (l .sections) (l .i) 0) = rw (← i .2) (c .with-target .ensures) in
     (search needs, simp length-set (i .1), map-set-same firstOf (l .sections) (l .i) _ 0 (ap firstOf v ∙ first-kept _ (number-small s n k few) _) ∙ i .2, map-more _ (l .sections) (l .i) n (c .before .before .before .loop-test .taken) len _ v ∙ i .3)
 
--- src/retarget.rt:50:1
 same-length : tie.Need-same-length Inv-loop μ-loop
 same-length c = search needs
 
--- src/retarget.rt:50:1
 returns : tie.Need-returns Inv-loop μ-loop
 returns c =
     sym (map-done _ _ _ _ (c .loop-test .left) (c .before .loop .inv .0)) ∙ c .before .loop .inv .3

@@ -1,63 +1,45 @@
+-- `with_target` meets its contract. Assumes nothing.
+use mathlib.Core.Path.{sym, ap, _∙_}
+use Prim.Native.Nat.{_-_}
+use borrow.Author.Needs.{needs}
 use Rattle.rules.specs.Machine.{unfixed, line}
 use Rattle.words.specs.Runs.{successTold}
 use Rattle.clean.proofs.Single.{target-is, target-section}
-use lib.ListN.{length, getD}
-use borrow.Author.Tests.{not-true, not-false}
-use native.Mathlib.Omega.{arith}
-use mathlib.Core.Path.{_≡_, refl, sym, ap, _∙_}
-use Prim.Native.Nat.{ℕ, _≤_, _<_, _-_, _*_, _+_, _^_}
-use borrow.Author.Needs.{needs}
 use Rattle.clean.proofs.retarget.with_target.Statement.{statement}
 use Rattle.clean.proofs.retarget.with_target.Tie as tie
-use Rattle.clean.proofs.retarget.with_target.Reads as reads
-use Rattle.clean.proofs.retarget.with_target.Lts as lts
-use Rattle.clean.proofs.number.new_number.Reads as new-number-reads
-use Rattle.words.proofs.section.SectionWord.success.Reads as success-reads
-use Rattle.words.proofs.section.SectionWord.with_success.Reads as with-success-reads
 
--- src/retarget.rt:18:11
 success-requires : tie.Need-success-requires
 success-requires c κs = search needs
 
--- src/retarget.rt:19:50
 enum-told : tie.Need-enum-told
 enum-told c = search needs
 
--- src/retarget.rt:19:35
 with-success-requires : tie.Need-with-success-requires
 with-success-requires c κs = search needs
 
--- src/retarget.rt:20:32
 enum-known-s : tie.Need-enum-known-s
 enum-known-s c = search needs
 
--- src/retarget.rt:21:36
 new-number-requires : tie.Need-new-number-requires
 new-number-requires c κs = search needs
 
--- src/retarget.rt:20:38
 with-success-requires-2 : tie.Need-with-success-requires-2
 with-success-requires-2 c κs = search needs
 
--- src/retarget.rt:23:29
 enum-known-r : tie.Need-enum-known-r
 enum-known-r c = search needs
 
--- src/retarget.rt:23:35
 with-success-requires-3 : tie.Need-with-success-requires-3
 with-success-requires-3 c κs = search needs
 
--- src/retarget.rt:14:1
 returns : tie.Need-returns
 returns c =
     target-is _ _ _ unfixed (sym (ap successTold (c .before .enum-told .given .1)) ∙ c .before .before .before .success .ensures) (c .with-success .ensures)
 
--- src/retarget.rt:14:1
 returns-2 : tie.Need-returns-2
 returns-2 c =
     target-section _ _ _ _ _ (sym (ap successTold (c .before .before .before .s .given .1)) ∙ c .before .before .before .before .before .success .ensures) (c .before .new-number .ensures) (c .with-success2 .ensures)
 
--- src/retarget.rt:14:1
 returns-3 : tie.Need-returns-3
 returns-3 c =
     target-is _ _ _ (line _) (sym (ap successTold (c .before .before .r .given .1)) ∙ c .before .before .before .before .success .ensures) (c .with-success3 .ensures)

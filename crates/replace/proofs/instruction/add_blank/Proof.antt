@@ -1,60 +1,44 @@
-use lib.ListN.{length, take, getD, set, length-set}
-use native.Mathlib.Omega.{arith}
-use mathlib.Core.Path.{_≡_, refl, sym, ap, _∙_}
-use Prim.Native.Nat.{ℕ, _≤_, _<_, _-_, _*_, _+_, _^_}
+-- `add_blank` meets its contract. Assumes nothing.
+use lib.ListN.{set}
+use mathlib.Core.Path.{refl, ap}
+use Prim.Native.Nat.{ℕ, _-_}
 use borrow.Author.Needs.{needs}
 use Rattle.replace.proofs.instruction.add_blank.Statement.{statement}
 use Rattle.replace.proofs.instruction.add_blank.Tie as tie
-use Rattle.replace.proofs.instruction.add_blank.Reads as reads
-use Rattle.replace.proofs.instruction.add_blank.Lts as lts
-use Rattle.words.proofs.instr.Instruction.str_str.Reads as str-str-reads
-use Rattle.words.proofs.text.StringWord.pack.Reads as pack-reads
 
--- src/instruction.rt:57:67
 cast-t10 : tie.Need-cast-t10
 cast-t10 c = search needs
 
--- src/instruction.rt:57:9
 str-str-requires : tie.Need-str-str-requires
 str-str-requires c κs = search needs
 
--- src/instruction.rt:58:9
 pack-requires : tie.Need-pack-requires
 pack-requires c κs = search needs
 
--- src/instruction.rt:59:5
 mul-instructions : tie.Need-mul-instructions
 mul-instructions c = search needs
 
--- src/instruction.rt:59:5
 slice-write-instructions : tie.Need-slice-write-instructions
 slice-write-instructions c = search needs
 
--- src/instruction.rt:60:5
 mul-strings : tie.Need-mul-strings
 mul-strings c = search needs
 
--- src/instruction.rt:60:5
 slice-write-strings : tie.Need-slice-write-strings
 slice-write-strings c = search needs
 
--- src/instruction.rt:62:23
 add-t12 : tie.Need-add-t12
 add-t12 c = search needs
 
--- src/instruction.rt:64:18
 add-t15 : tie.Need-add-t15
 add-t15 c = search needs
 
--- src/instruction.rt:45:1
 same-length : tie.Need-same-length
 same-length c = search needs
 
--- src/instruction.rt:45:1
 same-length-2 : tie.Need-same-length-2
 same-length-2 c = search needs
 
--- src/instruction.rt:45:1
 returns : tie.Need-returns
 returns c =
     record {

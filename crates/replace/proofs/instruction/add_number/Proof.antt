@@ -1,55 +1,41 @@
-use lib.ListN.{length, take, getD, set, length-set}
-use native.Mathlib.Omega.{arith}
-use mathlib.Core.Path.{_≡_, refl, sym, ap, _∙_}
-use Prim.Native.Nat.{ℕ, _≤_, _<_, _-_, _*_, _+_, _^_}
+-- `add_number` meets its contract. Assumes nothing.
+use lib.ListN.{set}
+use mathlib.Core.Path.{refl, ap}
+use Prim.Native.Nat.{ℕ, _-_}
 use borrow.Author.Needs.{needs}
 use Rattle.replace.proofs.instruction.add_number.Statement.{statement}
 use Rattle.replace.proofs.instruction.add_number.Tie as tie
-use Rattle.replace.proofs.instruction.add_number.Reads as reads
-use Rattle.replace.proofs.instruction.add_number.Lts as lts
-use Rattle.words.proofs.instr.Instruction.num_num.Reads as num-num-reads
 
--- src/instruction.rt:34:67
 cast-t10 : tie.Need-cast-t10
 cast-t10 c = search needs
 
--- src/instruction.rt:34:9
 num-num-requires : tie.Need-num-num-requires
 num-num-requires c κs = search needs
 
--- src/instruction.rt:35:5
 mul-instructions : tie.Need-mul-instructions
 mul-instructions c = search needs
 
--- src/instruction.rt:35:5
 slice-write-instructions : tie.Need-slice-write-instructions
 slice-write-instructions c = search needs
 
--- src/instruction.rt:37:5
 mul-value : tie.Need-mul-value
 mul-value c = search needs
 
--- src/instruction.rt:37:5
 slice-set-from-value : tie.Need-slice-set-from-value
 slice-set-from-value c = search needs
 
--- src/instruction.rt:39:23
 add-t12 : tie.Need-add-t12
 add-t12 c = search needs
 
--- src/instruction.rt:40:18
 add-t15 : tie.Need-add-t15
 add-t15 c = search needs
 
--- src/instruction.rt:22:1
 same-length : tie.Need-same-length
 same-length c = search needs
 
--- src/instruction.rt:22:1
 same-length-2 : tie.Need-same-length-2
 same-length-2 c = search needs
 
--- src/instruction.rt:22:1
 returns : tie.Need-returns
 returns c =
     record {

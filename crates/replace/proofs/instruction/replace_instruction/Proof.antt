@@ -1,132 +1,99 @@
+-- `replace_instruction` meets its contract. Assumes nothing.
+use native.Mathlib.Omega.{arith}
+use Prim.Native.Nat.{_-_}
+use borrow.Author.Needs.{needs}
 use Rattle.replace.proofs.Steps.{gone, kept, turned, number-added, blank-added}
 use Rattle.replace.proofs.Adding.{numbers-are, strings-are}
-use lib.ListN.{length, take, getD, set, length-set}
-use native.Mathlib.Omega.{arith}
-use mathlib.Core.Path.{_≡_, refl, sym, ap, _∙_}
-use Prim.Native.Nat.{ℕ, _≤_, _<_, _-_, _*_, _+_, _^_}
-use borrow.Author.Needs.{needs}
 use Rattle.replace.proofs.instruction.replace_instruction.Statement.{statement}
 use Rattle.replace.proofs.instruction.replace_instruction.Tie as tie
-use Rattle.replace.proofs.instruction.replace_instruction.Reads as reads
-use Rattle.replace.proofs.instruction.replace_instruction.Lts as lts
-use Rattle.replace.proofs.instruction.add_blank.Reads as add-blank-reads
-use Rattle.replace.proofs.instruction.add_number.Reads as add-number-reads
-use Rattle.words.proofs.instr.Instruction.dup_replace_with.Reads as dup-replace-with-reads
-use Rattle.words.proofs.instr.Instruction.plain.Reads as plain-reads
 
--- src/instruction.rt:81:11
 dup-replace-with-requires : tie.Need-dup-replace-with-requires
 dup-replace-with-requires c κs = search needs
 
--- src/instruction.rt:83:31
 enum-told : tie.Need-enum-told
 enum-told c = search needs
 
--- src/instruction.rt:83:31
 plain-requires : tie.Need-plain-requires
 plain-requires c κs = search needs
 
--- src/instruction.rt:83:13
 mul-instructions : tie.Need-mul-instructions
 mul-instructions c = search needs
 
--- src/instruction.rt:83:13
 slice-write-instructions : tie.Need-slice-write-instructions
 slice-write-instructions c = search needs
 
--- src/instruction.rt:85:31
 add-t15 : tie.Need-add-t15
 add-t15 c = search needs
 
--- src/instruction.rt:90:27
 enum-told-2 : tie.Need-enum-told-2
 enum-told-2 c = search needs
 
--- src/instruction.rt:91:25
 enum-known-v : tie.Need-enum-known-v
 enum-known-v c = search needs
 
--- src/instruction.rt:92:13
 mul-instructions-2 : tie.Need-mul-instructions-2
 mul-instructions-2 c = search needs
 
--- src/instruction.rt:92:13
 slice-write-instructions-2 : tie.Need-slice-write-instructions-2
 slice-write-instructions-2 c = search needs
 
--- src/instruction.rt:94:31
 add-t17 : tie.Need-add-t17
 add-t17 c = search needs
 
--- src/instruction.rt:99:26
 enum-known-z : tie.Need-enum-known-z
 enum-known-z c = search needs
 
--- src/instruction.rt:99:36
 add-number-requires : tie.Need-add-number-requires
 add-number-requires c κs =
     let p = c .before .before .before .before .before .before .before .before .pre in
     let x = numbers-are (c .before .before .before .before .before .before .before .before .args .w .0) _ (c .before .before .before .before .before .dup-replace-with .ensures) _ (c .before .before .before .z .given .1) in
     (p .instr, omega arith, omega arith)
 
--- src/instruction.rt:100:25
 enum-known-to : tie.Need-enum-known-to
 enum-known-to c = search needs
 
--- src/instruction.rt:100:32
 add-blank-requires : tie.Need-add-blank-requires
 add-blank-requires c κs =
     let p = c .before .before .before .before .before .before .before .before .pre in
     let x = strings-are (c .before .before .before .before .before .before .before .before .args .w .0) _ (c .before .before .before .before .before .dup-replace-with .ensures) _ (c .before .before .before .to .given .1) in
     (p .instr, omega arith, omega arith)
 
--- src/instruction.rt:69:1
 same-length : tie.Need-same-length
 same-length c = search needs
 
--- src/instruction.rt:69:1
 returns : tie.Need-returns
 returns c =
     kept _ _ _ _ _ _ _ (c .before .before .before .before .before .before .args .w .0) _ (c .before .before .before .dup-replace-with .ensures) (c .before .before .before .before .before .before .pre .instr) (c .before .enum-told .given .1) _ (c .plain .ensures)
 
--- src/instruction.rt:69:1
 returns-2 : tie.Need-returns-2
 returns-2 c =
     gone _ _ _ _ _ _ _ (c .before .before .before .before .before .args .w .0) _ (c .before .before .dup-replace-with .ensures) (c .enum-told2 .given .1)
 
--- src/instruction.rt:69:1
 same-length-2 : tie.Need-same-length-2
 same-length-2 c = search needs
 
--- src/instruction.rt:69:1
 returns-3 : tie.Need-returns-3
 returns-3 c =
     turned _ _ _ _ _ _ _ (c .before .before .before .before .before .before .args .w .0) _ (c .before .before .before .dup-replace-with .ensures) (c .before .before .before .before .before .before .pre .instr) _ (c .before .v .given .1)
 
--- src/instruction.rt:69:1
 same-length-3 : tie.Need-same-length-3
 same-length-3 c = search needs
 
--- src/instruction.rt:69:1
 same-length-4 : tie.Need-same-length-4
 same-length-4 c = search needs
 
--- src/instruction.rt:69:1
 returns-4 : tie.Need-returns-4
 returns-4 c =
     let p = c .before .before .before .before .before .before .before .before .before .before .before .before .pre in
     let x = numbers-are (c .before .before .before .before .before .before .before .before .before .before .before .before .args .w .0) _ (c .before .before .before .before .before .before .before .before .before .dup-replace-with .ensures) _ (c .before .before .before .before .before .before .before .z .given .1) in
     number-added _ _ _ _ _ _ _ (c .before .before .before .before .before .before .before .before .before .before .before .before .args .w .0) _ (c .before .before .before .before .before .before .before .before .before .dup-replace-with .ensures) (p .instr) _ _ (c .before .before .before .before .before .before .before .z .given .1) (omega arith) _ _ _ _ _ (c .before .before .before .add-number .ensures)
 
--- src/instruction.rt:69:1
 same-length-5 : tie.Need-same-length-5
 same-length-5 c = search needs
 
--- src/instruction.rt:69:1
 same-length-6 : tie.Need-same-length-6
 same-length-6 c = search needs
 
--- src/instruction.rt:69:1
 returns-5 : tie.Need-returns-5
 returns-5 c =
     let p = c .before .before .before .before .before .before .before .before .before .before .before .before .before .pre in

@@ -1,20 +1,11 @@
-use Rattle.replace.proofs.Sections.{Replacing, sections-begin, sections-end, sections-open, sections-more, fits, rewrote}
-use lib.ListN.{length, take, getD, set, length-set}
-use borrow.Author.Tests.{not-true, not-false}
+-- `replace_duplicates` meets its contract. Assumes nothing.
 use native.Mathlib.Omega.{arith}
-use mathlib.Core.Path.{_≡_, refl, sym, ap, _∙_}
-use Prim.Native.Nat.{ℕ, _≤_, _<_, _-_, _*_, _+_, _^_}
+use mathlib.Core.Path.{refl, _∙_}
+use Prim.Native.Nat.{_-_}
 use borrow.Author.Needs.{needs}
+use Rattle.replace.proofs.Sections.{Replacing, sections-begin, sections-end, sections-open, sections-more, fits, rewrote}
 use Rattle.replace.proofs.replace_duplicates.replace_duplicates.Statement.{statement}
 use Rattle.replace.proofs.replace_duplicates.replace_duplicates.Tie as tie
-use Rattle.replace.proofs.replace_duplicates.replace_duplicates.Reads as reads
-use Rattle.replace.proofs.replace_duplicates.replace_duplicates.Lts as lts
-use Rattle.replace.proofs.run.replace_run.Reads as replace-run-reads
-use Rattle.tables.proofs.shift.zero.Reads as zero-reads
-use Rattle.words.proofs.section.SectionWord.count.Reads as count-reads
-use Rattle.words.proofs.section.SectionWord.line_start.Reads as line-start-reads
-use Rattle.words.proofs.section.SectionWord.pack.Reads as pack-reads
-use Rattle.words.proofs.section.SectionWord.success.Reads as success-reads
 
 abbrev Inv-loop : tie.InvT-loop
 Inv-loop sections₀ instructions₀ numbers₀ strings₀ n e characters done₀ from₀ i₀ sections instructions numbers strings done from i =
@@ -24,59 +15,46 @@ abbrev μ-loop : tie.MeasureT-loop
 μ-loop sections₀ instructions₀ numbers₀ strings₀ n e characters done₀ from₀ i₀ sections instructions numbers strings done from i =
     n - i
 
--- src/replace_duplicates.rt:25:22
 cast-characters : tie.Need-cast-characters Inv-loop μ-loop
 cast-characters c = search needs
 
--- src/replace_duplicates.rt:33:5
 loop-holds : tie.Need-loop-holds Inv-loop μ-loop
 loop-holds c =
     sections-begin (c .before .before .before .before .args .sections .now) (c .before .before .before .before .args .instructions .now) (c .before .before .before .before .args .numbers .now) (c .before .before .before .before .args .strings .now) (c .before .before .before .before .args .c .sections) (c .before .before .before .before .args .c .instructions) (c .before .before .before .before .args .c .numbers) (c .before .before .before .before .args .c .strings) (c .before .before .before .before .args .c .characters) (c .before .before .before .before .pre)
 
--- src/replace_duplicates.rt:34:29
 mul-t18 : tie.Need-mul-t18 Inv-loop μ-loop
 mul-t18 c = search needs
 
--- src/replace_duplicates.rt:34:29
 slice-read-t20 : tie.Need-slice-read-t20 Inv-loop μ-loop
 slice-read-t20 c = search needs
 
--- src/replace_duplicates.rt:35:25
 count-requires : tie.Need-count-requires Inv-loop μ-loop
 count-requires c κs = search needs
 
--- src/replace_duplicates.rt:35:25
 cast-to : tie.Need-cast-to Inv-loop μ-loop
 cast-to c = search needs
 
--- src/replace_duplicates.rt:35:18
 add-to : tie.Need-add-to Inv-loop μ-loop
 add-to c = search needs
 
--- src/replace_duplicates.rt:37:9
 replace-run-requires : tie.Need-replace-run-requires Inv-loop μ-loop
 replace-run-requires c κs =
     let l = c .before .before .before .before .before .before .loop in
     sections-open (c .before .before .before .before .before .before .before .before .before .before .before .args .sections .now) (c .before .before .before .before .before .before .before .before .before .before .before .args .instructions .now) (c .before .before .before .before .before .before .before .before .before .before .before .args .numbers .now) (c .before .before .before .before .before .before .before .before .before .before .before .args .strings .now) (c .before .before .before .before .before .before .before .before .before .before .before .args .c .sections) (c .before .before .before .before .before .before .before .before .before .before .before .args .c .instructions) (c .before .before .before .before .before .before .before .before .before .before .before .args .c .numbers) (c .before .before .before .before .before .before .before .before .before .before .before .args .c .strings) (c .before .before .before .before .before .before .before .before .before .before .before .args .c .characters) (c .before .before .before .before .before .before .before .before .before .before .before .pre) (l .sections) (l .instructions) (l .numbers) (l .strings) (l .i) (l .from) (l .done .instructions) (l .done .numbers) (l .done .strings) (l .inv) (c .before .before .before .before .before .loop-test .taken) _ (c .before .before .before .count .ensures)
 
--- src/replace_duplicates.rt:38:21
 sub-count : tie.Need-sub-count Inv-loop μ-loop
 sub-count c =
     let x = c .before .before .before .before .before .before .replace-run .ensures .count in omega arith
 
--- src/replace_duplicates.rt:39:35
 line-start-requires : tie.Need-line-start-requires Inv-loop μ-loop
 line-start-requires c κs = search needs
 
--- src/replace_duplicates.rt:39:51
 success-requires : tie.Need-success-requires Inv-loop μ-loop
 success-requires c κs = search needs
 
--- src/replace_duplicates.rt:39:64
 cast-pack : tie.Need-cast-pack Inv-loop μ-loop
 cast-pack c = search needs
 
--- src/replace_duplicates.rt:39:78
 cast-pack-2 : tie.Need-cast-pack-2 Inv-loop μ-loop
 cast-pack-2 c =
     let l = c .before .before .before .before .before .before .before .before .before .before .before .before .before .before .before .loop in
@@ -85,11 +63,9 @@ cast-pack-2 c =
     let z = c .before .before .before .before .before .before .before .before .before .before .before .before .before .before .before .before .before .before .before .before .pre .instrs-few in
     omega arith
 
--- src/replace_duplicates.rt:39:13
 pack-requires : tie.Need-pack-requires Inv-loop μ-loop
 pack-requires c κs = search needs
 
--- src/replace_duplicates.rt:40:9
 mul-sections : tie.Need-mul-sections Inv-loop μ-loop
 mul-sections c =
     let x = c .before .before .before .before .before .before .before .before .before .before .before .before .before .before .before .before .loop .inv .ss-len in
@@ -97,26 +73,21 @@ mul-sections c =
     let z = c .before .before .before .before .before .before .before .before .before .before .before .before .before .before .before .loop-test .taken in
     omega (arith, c .before .before .before .before .before .before .before .before .before .before .before .before .before .before .before .before .before .before .before .before .before .good .1 .0 .0, c .before .before .before .before .before .before .before .before .before .before .before .before .before .before .before .before .before .before .before .before .before .good .1 .0 .1)
 
--- src/replace_duplicates.rt:40:9
 slice-write-sections : tie.Need-slice-write-sections Inv-loop μ-loop
 slice-write-sections c = search needs
 
--- src/replace_duplicates.rt:42:9
 add-i : tie.Need-add-i Inv-loop μ-loop
 add-i c = search needs
 
--- src/replace_duplicates.rt:33:5
 loop-less : tie.Need-loop-less Inv-loop μ-loop
 loop-less c = search needs
 
--- src/replace_duplicates.rt:33:5
 loop-again : tie.Need-loop-again Inv-loop μ-loop
 loop-again c =
     let l = c .before .before .before .before .before .before .before .before .before .before .before .before .before .before .before .before .loop in
     let k = c .before .before .before .before .before .before .before .before .before .replace-run .kept in
     sections-more (c .before .before .before .before .before .before .before .before .before .before .before .before .before .before .before .before .before .before .before .before .before .args .sections .now) (c .before .before .before .before .before .before .before .before .before .before .before .before .before .before .before .before .before .before .before .before .before .args .instructions .now) (c .before .before .before .before .before .before .before .before .before .before .before .before .before .before .before .before .before .before .before .before .before .args .numbers .now) (c .before .before .before .before .before .before .before .before .before .before .before .before .before .before .before .before .before .before .before .before .before .args .strings .now) (c .before .before .before .before .before .before .before .before .before .before .before .before .before .before .before .before .before .before .before .before .before .args .c .sections) (c .before .before .before .before .before .before .before .before .before .before .before .before .before .before .before .before .before .before .before .before .before .args .c .instructions) (c .before .before .before .before .before .before .before .before .before .before .before .before .before .before .before .before .before .before .before .before .before .args .c .numbers) (c .before .before .before .before .before .before .before .before .before .before .before .before .before .before .before .before .before .before .before .before .before .args .c .strings) (c .before .before .before .before .before .before .before .before .before .before .before .before .before .before .before .before .before .before .before .before .before .args .c .characters) (c .before .before .before .before .before .before .before .before .before .before .before .before .before .before .before .before .before .before .before .before .before .pre) (l .sections) (l .instructions) (l .numbers) (l .strings) (l .i) (l .from) (l .done .instructions) (l .done .numbers) (l .done .strings) (l .inv) (c .before .before .before .before .before .before .before .before .before .before .before .before .before .before .before .loop-test .taken) _ (c .before .before .before .before .before .before .before .before .before .before .before .before .before .count .ensures) _ _ _ _ _ _ (c .before .before .before .before .before .before .before .before .before .replace-run .ensures) (k .0) (k .1 .0) (k .1 .1 .0) _ _ _ _ (c .pack .ensures) (c .before .before .line-start .ensures) (c .before .success .ensures) refl
 
--- src/replace_duplicates.rt:44:5
 zero-requires : tie.Need-zero-requires Inv-loop μ-loop
 zero-requires c κs =
     let l = c .before .before .loop in
@@ -125,27 +96,22 @@ zero-requires c κs =
     let y = c .before .before .before .before .before .before .before .pre .instrs in
     (w .shorter, omega arith)
 
--- src/replace_duplicates.rt:13:1
 same-length : tie.Need-same-length Inv-loop μ-loop
 same-length c =
     c .before .before .before .before .before .loop .inv .ss-len
 
--- src/replace_duplicates.rt:13:1
 same-length-2 : tie.Need-same-length-2 Inv-loop μ-loop
 same-length-2 c =
     c .before .before .zero .kept .0 ∙ c .before .before .before .before .before .loop .inv .is-len
 
--- src/replace_duplicates.rt:13:1
 same-length-3 : tie.Need-same-length-3 Inv-loop μ-loop
 same-length-3 c =
     c .before .before .before .before .before .loop .inv .ns-len
 
--- src/replace_duplicates.rt:13:1
 same-length-4 : tie.Need-same-length-4 Inv-loop μ-loop
 same-length-4 c =
     c .before .before .before .before .before .loop .inv .ts-len
 
--- src/replace_duplicates.rt:13:1
 returns : tie.Need-returns Inv-loop μ-loop
 returns c =
     let l = c .before .before .before .before .before .loop in

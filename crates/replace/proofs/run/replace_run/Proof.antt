@@ -1,14 +1,10 @@
-use Rattle.replace.proofs.Runs.{Running, run-begins, run-ends, run-spare, run-more}
-use lib.ListN.{length, take, getD, set, length-set}
+-- `replace_run` meets its contract. Assumes nothing.
 use native.Mathlib.Omega.{arith}
-use mathlib.Core.Path.{_≡_, refl, sym, ap, _∙_}
-use Prim.Native.Nat.{ℕ, _≤_, _<_, _-_, _*_, _+_, _^_}
+use Prim.Native.Nat.{_-_}
 use borrow.Author.Needs.{needs}
+use Rattle.replace.proofs.Runs.{Running, run-begins, run-ends, run-spare, run-more}
 use Rattle.replace.proofs.run.replace_run.Statement.{statement}
 use Rattle.replace.proofs.run.replace_run.Tie as tie
-use Rattle.replace.proofs.run.replace_run.Reads as reads
-use Rattle.replace.proofs.run.replace_run.Lts as lts
-use Rattle.replace.proofs.instruction.replace_instruction.Reads as replace-instruction-reads
 
 abbrev Inv-loop : tie.InvT-loop
 Inv-loop instructions₀ numbers₀ strings₀ characters from to i₀ done₀ instructions numbers strings i done =
@@ -18,59 +14,48 @@ abbrev μ-loop : tie.MeasureT-loop
 μ-loop instructions₀ numbers₀ strings₀ characters from to i₀ done₀ instructions numbers strings i done =
     to - i
 
--- src/run.rt:24:5
 loop-holds : tie.Need-loop-holds Inv-loop μ-loop
 loop-holds c =
     run-begins (c .before .before .args .characters) (c .before .before .args .instructions .now) (c .before .before .args .numbers .now) (c .before .before .args .strings .now) (c .before .before .args .at .instructions) (c .before .before .args .at .numbers) (c .before .before .args .at .strings) (c .before .before .args .from) (c .before .before .args .to) (c .before .before .pre)
 
--- src/run.rt:25:29
 mul-t12 : tie.Need-mul-t12 Inv-loop μ-loop
 mul-t12 c = search needs
 
--- src/run.rt:25:29
 slice-read-t14 : tie.Need-slice-read-t14 Inv-loop μ-loop
 slice-read-t14 c =
     let x = c .before .before .loop .inv .i-len in
     let y = c .before .before .before .before .before .pre .within in
     omega arith
 
--- src/run.rt:26:9
 replace-instruction-requires : tie.Need-replace-instruction-requires Inv-loop μ-loop
 replace-instruction-requires c κs =
     let l = c .before .before .before .before .before .loop in
     run-spare (c .before .before .before .before .before .before .before .before .args .characters) (c .before .before .before .before .before .before .before .before .args .instructions .now) (c .before .before .before .before .before .before .before .before .args .numbers .now) (c .before .before .before .before .before .before .before .before .args .strings .now) (c .before .before .before .before .before .before .before .before .args .at .instructions) (c .before .before .before .before .before .before .before .before .args .at .numbers) (c .before .before .before .before .before .before .before .before .args .at .strings) (c .before .before .before .before .before .before .before .before .args .from) (c .before .before .before .before .before .before .before .before .args .to) (c .before .before .before .before .before .before .before .before .pre) (l .instructions) (l .numbers) (l .strings) (l .i) (l .done .instructions) (l .done .numbers) (l .done .strings) (l .inv) (c .before .before .before .before .loop-test .taken)
 
--- src/run.rt:27:9
 add-i : tie.Need-add-i Inv-loop μ-loop
 add-i c = search needs
 
--- src/run.rt:24:5
 loop-less : tie.Need-loop-less Inv-loop μ-loop
 loop-less c = search needs
 
--- src/run.rt:24:5
 loop-again : tie.Need-loop-again Inv-loop μ-loop
 loop-again c =
     let l = c .before .before .before .before .before .before .before .before .before .before .before .loop in
     let k = c .before .before .before .before .before .replace-instruction .kept in
     run-more (c .before .before .before .before .before .before .before .before .before .before .before .before .before .before .args .characters) (c .before .before .before .before .before .before .before .before .before .before .before .before .before .before .args .instructions .now) (c .before .before .before .before .before .before .before .before .before .before .before .before .before .before .args .numbers .now) (c .before .before .before .before .before .before .before .before .before .before .before .before .before .before .args .strings .now) (c .before .before .before .before .before .before .before .before .before .before .before .before .before .before .args .at .instructions) (c .before .before .before .before .before .before .before .before .before .before .before .before .before .before .args .at .numbers) (c .before .before .before .before .before .before .before .before .before .before .before .before .before .before .args .at .strings) (c .before .before .before .before .before .before .before .before .before .before .before .before .before .before .args .from) (c .before .before .before .before .before .before .before .before .before .before .before .before .before .before .args .to) (c .before .before .before .before .before .before .before .before .before .before .before .before .before .before .pre) (l .instructions) (l .numbers) (l .strings) (l .i) (l .done .instructions) (l .done .numbers) (l .done .strings) (l .inv) (c .before .before .before .before .before .before .before .before .before .before .loop-test .taken) _ _ _ _ _ _ (c .before .before .before .before .before .replace-instruction .ensures) (k .0) (k .1 .0) (k .1 .1 .0)
 
--- src/run.rt:10:1
 same-length : tie.Need-same-length Inv-loop μ-loop
 same-length c =
     c .before .loop .inv .i-len
 
--- src/run.rt:10:1
 same-length-2 : tie.Need-same-length-2 Inv-loop μ-loop
 same-length-2 c =
     c .before .loop .inv .k-len
 
--- src/run.rt:10:1
 same-length-3 : tie.Need-same-length-3 Inv-loop μ-loop
 same-length-3 c =
     c .before .loop .inv .t-len
 
--- src/run.rt:10:1
 returns : tie.Need-returns Inv-loop μ-loop
 returns c =
     let l = c .before .loop in

@@ -1,48 +1,35 @@
-use Rattle.tables.proofs.Sound.{counted}
-use Rattle.tables.proofs.Walks.{no-counts, all-tables}
+-- `check` meets its contract. Assumes nothing.
 use borrow.Author.Tests.{not-true, not-false}
 use mathlib.Core.Path.{sym, _∙_}
 use borrow.Author.Needs.{needs}
+use Rattle.tables.proofs.Sound.{counted}
+use Rattle.tables.proofs.Walks.{no-counts, all-tables}
 use Rattle.tables.proofs.check.check.Statement.{statement}
 use Rattle.tables.proofs.check.check.Tie as tie
-use Rattle.tables.proofs.check.check.Reads as reads
-use Rattle.tables.proofs.check.check.Lts as lts
-use Rattle.tables.proofs.check.instructions_fit.Reads as instructions-fit-reads
-use Rattle.tables.proofs.check.names_fit.Reads as names-fit-reads
-use Rattle.tables.proofs.check.sections_fit.Reads as sections-fit-reads
-use Rattle.tables.proofs.check.strings_fit.Reads as strings-fit-reads
-use Rattle.tables.proofs.counts.counts_fit.Reads as counts-fit-reads
 
--- src/check.rt:90:9
 counts-fit-requires : tie.Need-counts-fit-requires
 counts-fit-requires c κs = search needs
 
--- src/check.rt:91:9
 returns : tie.Need-returns
 returns c =
     no-counts _ _ _ (c .before .counts-fit .ensures) (not-true _ (c .if1 .taken))
 
--- src/check.rt:93:5
 instructions-fit-requires : tie.Need-instructions-fit-requires
 instructions-fit-requires c κs =
     counted _ _ (sym (c .before .counts-fit .ensures) ∙ not-false _ (c .if1 .left)) .instrs
 
--- src/check.rt:94:11
 sections-fit-requires : tie.Need-sections-fit-requires
 sections-fit-requires c κs =
     let k = counted _ _ (sym (c .before .before .counts-fit .ensures) ∙ not-false _ (c .before .if1 .left)) in (k .sections, k .sections-few)
 
--- src/check.rt:95:11
 strings-fit-requires : tie.Need-strings-fit-requires
 strings-fit-requires c κs =
     counted _ _ (sym (c .before .before .before .counts-fit .ensures) ∙ not-false _ (c .before .before .if1 .left)) .strings
 
--- src/check.rt:96:11
 names-fit-requires : tie.Need-names-fit-requires
 names-fit-requires c κs =
     counted _ _ (sym (c .before .before .before .before .counts-fit .ensures) ∙ not-false _ (c .before .before .before .if1 .left)) .names
 
--- src/check.rt:79:1
 returns-2 : tie.Need-returns-2
 returns-2 c =
     all-tables _ _ _ (c .before .before .before .before .before .counts-fit .ensures) (not-false _ (c .before .before .before .before .if1 .left)) _ _ _ _ (c .before .before .before .instructions-fit .ensures) (c .before .before .sections-fit .ensures) (c .before .strings-fit .ensures) (c .names-fit .ensures)

@@ -1,18 +1,15 @@
-use Rattle.tables.proofs.Walks.{runs-done, runs-stop, runs-more}
-use Rattle.rules.specs.Tables.{runsFit}
-use Rattle.tables.specs.Lent.{countsTold}
+-- `sections_fit` meets its contract. Assumes nothing.
 use lib.Seq.{slice}
 use lib.ListN.{take}
 use borrow.Author.Tests.{not-true, not-false}
-use mathlib.Core.Path.{_≡_, refl, sym, _∙_}
-use Prim.Native.Nat.{_≤_, _-_, _*_, _+_}
+use mathlib.Core.Path.{_≡_, refl, _∙_}
+use Prim.Native.Nat.{_≤_, _-_, _*_}
 use borrow.Author.Needs.{needs}
+use Rattle.rules.specs.Tables.{runsFit}
+use Rattle.tables.specs.Lent.{countsTold}
+use Rattle.tables.proofs.Walks.{runs-done, runs-stop, runs-more}
 use Rattle.tables.proofs.check.sections_fit.Statement.{statement}
 use Rattle.tables.proofs.check.sections_fit.Tie as tie
-use Rattle.tables.proofs.check.sections_fit.Reads as reads
-use Rattle.tables.proofs.check.sections_fit.Lts as lts
-use Rattle.tables.proofs.word.section_fits.Reads as section-fits-reads
-use Rattle.words.proofs.section.SectionWord.count.Reads as count-reads
 
 abbrev Inv-loop : tie.InvT-loop
 Inv-loop c t i₀ k₀ i k = (i ≤ c .sections) × (k ≤ i * 65535) × (runsFit (countsTold c) i k (slice i (c .sections) t) ≡ runsFit (countsTold c) 0 0 (take (c .sections) t))
@@ -20,54 +17,42 @@ Inv-loop c t i₀ k₀ i k = (i ≤ c .sections) × (k ≤ i * 65535) × (runsFi
 abbrev μ-loop : tie.MeasureT-loop
 μ-loop c t i₀ k₀ i k = c .sections - i
 
--- src/check.rt:39:5
 loop-holds : tie.Need-loop-holds Inv-loop μ-loop
 loop-holds c =
     (search needs, search needs, refl)
 
--- src/check.rt:40:29
 mul-t7 : tie.Need-mul-t7 Inv-loop μ-loop
 mul-t7 c = search needs
 
--- src/check.rt:40:29
 shared-slice-read-t9 : tie.Need-shared-slice-read-t9 Inv-loop μ-loop
 shared-slice-read-t9 c = search needs
 
--- src/check.rt:41:13
 section-fits-requires : tie.Need-section-fits-requires Inv-loop μ-loop
 section-fits-requires c κs = search needs
 
--- src/check.rt:42:13
 returns : tie.Need-returns Inv-loop μ-loop
 returns c =
     runs-stop _ _ _ _ _ (c .before .before .before .if1 .taken) (c .before .before .before .before .before .before .before .pre .0) _ (c .before .section-fits .ensures) (not-true _ (c .if2 .taken)) ∙ c .before .before .before .before .before .loop .inv .2
 
--- src/check.rt:44:14
 count-requires : tie.Need-count-requires Inv-loop μ-loop
 count-requires c κs = search needs
 
--- src/check.rt:44:14
 cast-k : tie.Need-cast-k Inv-loop μ-loop
 cast-k c = search needs
 
--- src/check.rt:44:9
 add-k : tie.Need-add-k Inv-loop μ-loop
 add-k c = search needs
 
--- src/check.rt:45:9
 add-i : tie.Need-add-i Inv-loop μ-loop
 add-i c = search needs
 
--- src/check.rt:39:5
 loop-less : tie.Need-loop-less Inv-loop μ-loop
 loop-less c = search needs
 
--- src/check.rt:39:5
 loop-again : tie.Need-loop-again Inv-loop μ-loop
 loop-again c =
     (search needs, search needs, runs-more _ _ _ _ _ (c .before .before .before .before .if1 .taken) (c .before .before .before .before .before .before .before .before .pre .0) _ (c .before .before .section-fits .ensures) (not-false _ (c .before .if2 .left)) _ (c .count .ensures) ∙ c .before .before .before .before .before .before .loop .inv .2)
 
--- src/check.rt:33:1
 returns-2 : tie.Need-returns-2 Inv-loop μ-loop
 returns-2 c =
     runs-done _ _ _ _ _ (c .before .if1 .left) (c .before .before .before .loop .inv .0) ∙ c .before .before .before .loop .inv .2

@@ -1,36 +1,27 @@
-use Rattle.tables.proofs.Single.{counts-are}
+-- `counts_fit` meets its contract. Assumes nothing.
 use borrow.Author.Needs.{needs}
+use Rattle.tables.proofs.Single.{counts-are}
 use Rattle.tables.proofs.counts.counts_fit.Statement.{statement}
 use Rattle.tables.proofs.counts.counts_fit.Tie as tie
-use Rattle.tables.proofs.counts.counts_fit.Reads as reads
-use Rattle.tables.proofs.counts.counts_fit.Lts as lts
-use Rattle.tables.proofs.counts.count_fits.Reads as count-fits-reads
 
--- src/counts.rt:49:11
 count-fits-requires : tie.Need-count-fits-requires
 count-fits-requires c κs = search needs
 
--- src/counts.rt:50:11
 count-fits-requires-2 : tie.Need-count-fits-requires-2
 count-fits-requires-2 c κs = search needs
 
--- src/counts.rt:51:11
 count-fits-requires-3 : tie.Need-count-fits-requires-3
 count-fits-requires-3 c κs = search needs
 
--- src/counts.rt:52:11
 count-fits-requires-4 : tie.Need-count-fits-requires-4
 count-fits-requires-4 c κs = search needs
 
--- src/counts.rt:53:11
 count-fits-requires-5 : tie.Need-count-fits-requires-5
 count-fits-requires-5 c κs = search needs
 
--- src/counts.rt:54:11
 count-fits-requires-6 : tie.Need-count-fits-requires-6
 count-fits-requires-6 c κs = search needs
 
--- src/counts.rt:34:1
 returns : tie.Need-returns
 returns c =
     counts-are _ _ _ _ _ _ _ _ (c .before .before .before .before .before .count-fits .ensures) (c .before .before .before .before .count-fits2 .ensures) (c .before .before .before .count-fits3 .ensures) (c .before .before .count-fits4 .ensures) (c .before .count-fits5 .ensures) (c .count-fits6 .ensures)

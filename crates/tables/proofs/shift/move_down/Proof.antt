@@ -1,16 +1,13 @@
-use Rattle.tables.proofs.InPlace.{down-none, down-more}
-use Rattle.tables.specs.Runs.{Down}
-use lib.Seq.{slice, map-set-same}
-use lib.ListN.{length, take, drop, set, getD, replicate, length-set}
-use mathlib.Core.List.{List, _++_, map}
-use Prim.Native.Nat.{ℕ, _≤_, _<_, _+_, _-_, _*_}
+-- `move_down` meets its contract. Assumes nothing.
+use lib.ListN.{length, length-set}
+use Prim.Native.Nat.{_≤_, _<_, _+_, _-_}
 use native.Mathlib.Omega.{arith}
-use mathlib.Core.Path.{_≡_, refl, sym, ap, _∙_}
+use mathlib.Core.Path.{_≡_, refl}
 use borrow.Author.Needs.{needs}
+use Rattle.tables.specs.Runs.{Down}
+use Rattle.tables.proofs.InPlace.{down-none, down-more}
 use Rattle.tables.proofs.shift.move_down.Statement.{statement}
 use Rattle.tables.proofs.shift.move_down.Tie as tie
-use Rattle.tables.proofs.shift.move_down.Reads as reads
-use Rattle.tables.proofs.shift.move_down.Lts as lts
 
 abbrev Inv-loop : tie.InvT-loop
 Inv-loop t₀ from to count i₀ t i = (i ≤ count) × (length t ≡ length t₀) × Down t₀ t from to i
@@ -18,43 +15,33 @@ Inv-loop t₀ from to count i₀ t i = (i ≤ count) × (length t ≡ length t�
 abbrev μ-loop : tie.MeasureT-loop
 μ-loop t₀ from to count i₀ t i = count - i
 
--- src/lib.rt:264:5
 loop-holds : tie.Need-loop-holds Inv-loop μ-loop
 loop-holds c = (search needs, refl, down-none _ _ _)
 
--- src/lib.rt:265:19
 add-w : tie.Need-add-w Inv-loop μ-loop
 add-w c = search needs
 
--- src/lib.rt:265:17
 mul-w : tie.Need-mul-w Inv-loop μ-loop
 mul-w c = search needs
 
--- src/lib.rt:265:17
 slice-read-w : tie.Need-slice-read-w Inv-loop μ-loop
 slice-read-w c = search needs
 
--- src/lib.rt:266:11
 add-t : tie.Need-add-t Inv-loop μ-loop
 add-t c = search needs
 
--- src/lib.rt:266:9
 mul-t : tie.Need-mul-t Inv-loop μ-loop
 mul-t c = search needs
 
--- src/lib.rt:266:9
 slice-write-t : tie.Need-slice-write-t Inv-loop μ-loop
 slice-write-t c = search needs
 
--- src/lib.rt:267:9
 add-i : tie.Need-add-i Inv-loop μ-loop
 add-i c = search needs
 
--- src/lib.rt:264:5
 loop-less : tie.Need-loop-less Inv-loop μ-loop
 loop-less c = search needs
 
--- src/lib.rt:264:5
 loop-again : tie.Need-loop-again Inv-loop μ-loop
 loop-again c =
     let l = c .before .before .loop in
@@ -64,11 +51,9 @@ loop-again c =
     let k : c .before .before .before .args .from + l .i < length (l .t) = omega arith in
     (search needs, simp length-set (i .1), down-more (c .before .before .before .args .t .now) (l .t) (c .before .before .before .args .from) (c .before .before .before .args .to) (l .i) (p .0) k (i .1) (i .2))
 
--- src/lib.rt:259:1
 same-length : tie.Need-same-length Inv-loop μ-loop
 same-length c = search needs
 
--- src/lib.rt:259:1
 returns : tie.Need-returns Inv-loop μ-loop
 returns c =
     let l = c .before .loop in

@@ -1,15 +1,13 @@
-use Rattle.tables.proofs.InPlace.{zero-done, zero-more}
-use lib.Seq.{slice, map-set-same}
-use lib.ListN.{length, take, drop, set, getD, replicate, length-set}
-use mathlib.Core.List.{List, _++_, map}
-use Prim.Native.Nat.{ℕ, _≤_, _<_, _+_, _-_, _*_}
+-- `zero` meets its contract. Assumes nothing.
+use lib.ListN.{length, take, drop, replicate, length-set}
+use mathlib.Core.List.{_++_}
+use Prim.Native.Nat.{_≤_, _+_, _-_}
 use native.Mathlib.Omega.{arith}
-use mathlib.Core.Path.{_≡_, refl, sym, ap, _∙_}
+use mathlib.Core.Path.{_≡_, refl, sym, _∙_}
 use borrow.Author.Needs.{needs}
+use Rattle.tables.proofs.InPlace.{zero-done, zero-more}
 use Rattle.tables.proofs.shift.zero.Statement.{statement}
 use Rattle.tables.proofs.shift.zero.Tie as tie
-use Rattle.tables.proofs.shift.zero.Reads as reads
-use Rattle.tables.proofs.shift.zero.Lts as lts
 
 abbrev Inv-loop : tie.InvT-loop
 Inv-loop t₀ from to i₀ t i = (from ≤ i) × (i ≤ to) × (length t ≡ length t₀) × (take i t ++ (replicate (to - i) 0 ++ drop to t) ≡ take from t₀ ++ (replicate (to - from) 0 ++ drop to t₀))
@@ -17,27 +15,21 @@ Inv-loop t₀ from to i₀ t i = (from ≤ i) × (i ≤ to) × (length t ≡ len
 abbrev μ-loop : tie.MeasureT-loop
 μ-loop t₀ from to i₀ t i = to - i
 
--- src/lib.rt:276:5
 loop-holds : tie.Need-loop-holds Inv-loop μ-loop
 loop-holds c = (search needs, search needs, refl, refl)
 
--- src/lib.rt:277:9
 mul-t : tie.Need-mul-t Inv-loop μ-loop
 mul-t c = search needs
 
--- src/lib.rt:277:9
 slice-write-t : tie.Need-slice-write-t Inv-loop μ-loop
 slice-write-t c = search needs
 
--- src/lib.rt:278:9
 add-i : tie.Need-add-i Inv-loop μ-loop
 add-i c = search needs
 
--- src/lib.rt:276:5
 loop-less : tie.Need-loop-less Inv-loop μ-loop
 loop-less c = search needs
 
--- src/lib.rt:276:5
 loop-again : tie.Need-loop-again Inv-loop μ-loop
 loop-again c =
     let l = c .before .loop in
@@ -46,11 +38,9 @@ loop-again c =
     let len : c .before .before .args .to ≤ length (l .t) = omega arith in
     (search needs, search needs, simp length-set (i .2), zero-more (l .t) (l .i) (c .before .before .args .to) (c .loop-test .taken) len ∙ i .3)
 
--- src/lib.rt:271:1
 same-length : tie.Need-same-length Inv-loop μ-loop
 same-length c = search needs
 
--- src/lib.rt:271:1
 returns : tie.Need-returns Inv-loop μ-loop
 returns c = let l = c .before .loop in sym (zero-done _ _ _ (c .loop-test .left) (l .inv .1)) ∙ l .inv .3
 

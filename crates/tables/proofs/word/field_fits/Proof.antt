@@ -1,55 +1,44 @@
-use Rattle.rules.specs.Tables.{fieldFits}
+-- `field_fits` meets its contract. Assumes nothing.
 use borrow.Author.Needs.{needs}
+use Rattle.rules.specs.Tables.{fieldFits}
 use Rattle.tables.proofs.word.field_fits.Statement.{statement}
 use Rattle.tables.proofs.word.field_fits.Tie as tie
-use Rattle.tables.proofs.word.field_fits.Reads as reads
-use Rattle.tables.proofs.word.field_fits.Lts as lts
 
--- src/word.rt:26:25
 enum-told : tie.Need-enum-told
 enum-told c = search needs
 
--- src/word.rt:27:22
 enum-told-2 : tie.Need-enum-told-2
 enum-told-2 c = search needs
 
--- src/word.rt:28:22
 enum-told-3 : tie.Need-enum-told-3
 enum-told-3 c = search needs
 
--- src/word.rt:29:22
 enum-told-4 : tie.Need-enum-told-4
 enum-told-4 c = search needs
 
--- src/word.rt:30:24
 enum-told-5 : tie.Need-enum-told-5
 enum-told-5 c = search needs
 
--- src/word.rt:21:1
 returns : tie.Need-returns
 unfolding fieldFits
 returns c =
     rw (c .enum-told .given .1)
 
--- src/word.rt:21:1
 returns-2 : tie.Need-returns-2
 unfolding fieldFits
 returns-2 c =
     rw (c .before .enum-told2 .given .1)
 
--- src/word.rt:21:1
 returns-3 : tie.Need-returns-3
 unfolding fieldFits
 returns-3 c =
     rw (c .before .enum-told3 .given .1)
 
--- src/word.rt:21:1
 returns-4 : tie.Need-returns-4
 unfolding fieldFits
 returns-4 c =
     rw (c .before .enum-told4 .given .1)
 
--- src/word.rt:21:1
 returns-5 : tie.Need-returns-5
 unfolding fieldFits
 returns-5 c =

@@ -1,11 +1,9 @@
-use Rattle.rules.specs.Tables.{nameFits}
+-- `name_fits` meets its contract. Assumes nothing.
 use borrow.Author.Needs.{needs}
+use Rattle.rules.specs.Tables.{nameFits}
 use Rattle.tables.proofs.word.name_fits.Statement.{statement}
 use Rattle.tables.proofs.word.name_fits.Tie as tie
-use Rattle.tables.proofs.word.name_fits.Reads as reads
-use Rattle.tables.proofs.word.name_fits.Lts as lts
 
--- src/word.rt:91:1
 returns : tie.Need-returns
 unfolding nameFits
 returns c =

@@ -1,48 +1,37 @@
-use Rattle.rules.specs.Tables.{successFits}
+-- `success_fits` meets its contract. Assumes nothing.
 use borrow.Author.Needs.{needs}
+use Rattle.rules.specs.Tables.{successFits}
 use Rattle.tables.proofs.word.success_fits.Statement.{statement}
 use Rattle.tables.proofs.word.success_fits.Tie as tie
-use Rattle.tables.proofs.word.success_fits.Reads as reads
-use Rattle.tables.proofs.word.success_fits.Lts as lts
-use Rattle.words.proofs.section.SectionWord.success.Reads as success-reads
 
--- src/word.rt:50:11
 success-requires : tie.Need-success-requires
 success-requires c κs = search needs
 
--- src/word.rt:51:35
 enum-told : tie.Need-enum-told
 enum-told c = search needs
 
--- src/word.rt:52:32
 enum-known-s : tie.Need-enum-known-s
 enum-known-s c = search needs
 
--- src/word.rt:52:39
 cast-result : tie.Need-cast-result
 cast-result c = search needs
 
--- src/word.rt:53:29
 enum-known-n : tie.Need-enum-known-n
 enum-known-n c = search needs
 
--- src/word.rt:53:36
 cast-result-2 : tie.Need-cast-result-2
 cast-result-2 c = search needs
 
--- src/word.rt:47:1
 returns : tie.Need-returns
 unfolding successFits
 returns c =
     rw (← c .before .before .success .ensures, c .enum-told .given .1)
 
--- src/word.rt:47:1
 returns-2 : tie.Need-returns-2
 unfolding successFits
 returns-2 c =
     rw (← c .before .before .before .before .before .success .ensures, c .before .before .before .s .given .1)
 
--- src/word.rt:47:1
 returns-3 : tie.Need-returns-3
 unfolding successFits
 returns-3 c =
