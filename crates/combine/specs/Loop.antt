@@ -1,18 +1,18 @@
 -- What the pass leaves, and what holds of the tables on the way. Assumes nothing.
-use mathlib.Core.Path.{_≡_, refl, sym, ap, _∙_, subst}
-use mathlib.Core.Option.{Option, none, some}
-use mathlib.Core.List.{List, [], _∷_, _++_, map, append-assoc}
-use Prim.Native.Nat.{ℕ, zero, suc, _+_, _-_, _<_, _≤_, max}
+use mathlib.Core.Path.{_≡_, sym, ap, _∙_, subst}
+use mathlib.Core.Option.{none, some}
+use mathlib.Core.List.{List, _++_, map, append-assoc}
+use Prim.Native.Nat.{ℕ, _+_, _-_, _<_, _≤_, max}
 use native.Mathlib.Omega.{arith}
 use native.Mathlib.Nat.{max-eq-left}
-use lib.ListN.{length, take, drop, getD, replicate, length-map, replicate-append-replicate, take-append-drop}
-use lib.Seq.{take-at, drop-at}
+use lib.ListN.{length, drop, getD, replicate, length-map, replicate-append-replicate, take-append-drop}
+use lib.Seq.{drop-at}
 use mathlib.Core.Bool.{true}
 use Rattle.rules.specs.Word.{insWord}
 use Rattle.rules.specs.Machine.{SectionCode, absent}
 use Rattle.rules.specs.Tables.{runWords, allCode}
 use Rattle.rules.specs.Operations.{put, allAhead}
-use Rattle.rules.specs.Combine.{mate, pair, combineAt, combineFuel, combineSections}
+use Rattle.rules.specs.Combine.{mate, combineAt, combineFuel, combineSections}
 use Rattle.walks.specs.CombineWalk.{Pair}
 use Rattle.tables.specs.Runs.{held}
 use Rattle.tables.proofs.Read.{words-length}

@@ -1,27 +1,26 @@
 -- What a join keeps: how often another section is referred to, which sections may take their successor in, and that no successor lies
 -- below its section. So the search for the lowest pair may go on where it stands. Assumes a pair whose second stands above its first.
-use mathlib.Core.Path.{_≡_, refl, sym, ap, ap₂, _∙_, subst}
+use mathlib.Core.Path.{_≡_, refl, sym, ap, ap₂, _∙_}
 use mathlib.Core.Logic.{_⊎_, inl, inr}
 use mathlib.Core.Bool.{Bool, true, false, cond, not, _&&_, _||_}
 use mathlib.Core.Option.{Option, none, some}
 use mathlib.Core.List.{List, [], _∷_, _++_, map}
-use Prim.Native.Nat.{ℕ, zero, suc, pred, _+_, _-_, _<_, _≤_}
+use Prim.Native.Nat.{ℕ, zero, suc, _+_, _-_, _<_, _≤_}
 use native.Mathlib.Nat.{le-of-suc-le-suc, not-suc-le-zero}
 use native.Mathlib.Omega.{arith}
-use lib.Dec.{eqb, ltb, leb}
+use lib.Dec.{eqb, leb}
 use lib.ListN.{length, getD, set, getElem?, List·getD-map, List·getD-eq-default}
 use lib.Seq.{getD-set-same, getD-set-other}
 use borrow.Author.Tests.{eqb-true, eqb-false, eq-eqb, ne-eqb, leb-true}
 use Rattle.rules.specs.Instr.{Instruction, isJump, fall}
 use Rattle.rules.specs.Machine.{SectionOrLine, unfixed, section, line, SectionCode, absent}
 use Rattle.rules.specs.Clean.{renIns, renNext, ren}
-use Rattle.rules.specs.Combine.{hit, refsNext, refsIns, refsCode, refs, mayTake, mate, pairFrom, pair, without, joined, combineAt, combineFuel, combineSections}
+use Rattle.rules.specs.Combine.{hit, refsNext, refsCode, refs, mayTake, mate, pairFrom, pair, without, joined, combineAt, combineFuel}
 use Rattle.rules.specs.Operations.{nextAhead, allAhead}
 use Rattle.combine.specs.Tests.{at-elem, at-past}
 use Rattle.walks.specs.CombineWalk.{cond-hit, Pair, true≢false, lt-or-le, fall-low, fall-high, without-fall}
 
 -- ---- numbers fall alike
-
 -- numbers that are not j are the same where they fall to the same
 fall-same : (j t u : ℕ) → (t ≡ j → ⊥) → (u ≡ j → ⊥) → fall j t ≡ fall j u → t ≡ u
 fall-same j t u p q e = go (lt-or-le j t) (lt-or-le j u)

@@ -9,6 +9,7 @@
 pub mod references;
 pub mod refusals;
 pub mod search;
+
 ghost use mathlib.Core.Path.{_≡_};
 ghost use mathlib.Core.Bool.{true};
 ghost use Rattle.rules.specs.Combine.{combineSections};

@@ -1,23 +1,23 @@
 -- What the steps of a join leave in the tables is the join of what they held: `joins`, and so they hold it: `join-holds`. Assumes that the
 -- words hold sections, runs end to end, and that S2 stands above S1.
-use mathlib.Core.Path.{_≡_, refl, sym, ap, ap₂, _∙_, subst}
+use mathlib.Core.Path.{_≡_, refl, sym, ap, _∙_, subst}
 use mathlib.Core.Logic.{_⊎_, inl, inr}
 use mathlib.Core.Bool.{Bool, true, false, cond}
 use mathlib.Core.List.{List, [], _∷_, _++_, map, append-assoc, map-append}
-use Prim.Native.Nat.{ℕ, zero, suc, _+_, _-_, _^_, _<_, _≤_, max}
+use Prim.Native.Nat.{ℕ, suc, _+_, _-_, _^_, _<_, _≤_, max}
 use native.Mathlib.Omega.{arith}
 use native.Mathlib.Nat.{max-eq-left}
-use lib.ListN.{length, take, drop, getD, set, replicate, take-append-drop, length-append, length-map, length-drop, length-take}
+use lib.ListN.{length, take, drop, getD, set, take-append-drop, length-append, length-map, length-drop, length-take}
 use lib.Seq.{slice, take-at, drop-at, getD-at, set-at, length-slice, length-take-le}
-use Rattle.rules.specs.Instr.{Instruction, isJump, fall, removeSection}
-use Rattle.rules.specs.Word.{runWord, wordRun, insWord, wordIns}
+use Rattle.rules.specs.Instr.{Instruction, isJump, fall}
+use Rattle.rules.specs.Word.{runWord, wordRun, insWord}
 use Rattle.rules.specs.Machine.{SectionOrLine, unfixed, section, line, SectionCode, absent}
 use Rattle.rules.specs.Tables.{runWords, allCode}
 use Rattle.rules.specs.Operations.{put}
 use Rattle.rules.specs.Clean.{renIns, renNext, ren}
 use Rattle.rules.specs.Combine.{joined, combineAt}
 use Rattle.rules.specs.Demand.{All}
-use Rattle.laws.specs.Words.{InsSmall, ins-back, run-small}
+use Rattle.laws.specs.Words.{InsSmall, ins-back}
 use Rattle.words.specs.Runs.{runOf}
 use Rattle.walks.specs.CombineWalk.{lt-or-le, fall-low, fall-high}
 use Rattle.tables.specs.Runs.{countOf, total}
@@ -25,11 +25,10 @@ use Rattle.tables.proofs.Read.{words-length}
 use Rattle.join.specs.Held.{NextSmall, SectSmall, Holds, Changed}
 use Rattle.join.specs.Parts.{exchanged}
 use Rattle.join.specs.Passes.{jumpFallen, mergedWord, cutOut, numbered}
-use Rattle.join.specs.Tells.{Tells, Tell, tell, tells, tell-append, tell-total, tell-length, merged, settles, words-cons, words-append, code-cons, code-append, code-longer, first-is, count-is}
+use Rattle.join.specs.Tells.{Tell, tell, tells, tell-append, tell-total, tell-length, merged, settles, words-cons, words-append, code-append, code-longer, first-is, count-is}
 use Rattle.join.specs.Parted.{cut-two, join-parts, code-map, code-before, code-after}
 
 -- ---- words cut and exchanged
-
 -- a part of a list by what stands before and behind it
 slice-at : (p x q : List ℕ) (a b : ℕ) → length p ≡ a → a + length x ≡ b → slice a b (p ++ (x ++ q)) ≡ x
 slice-at p x q a b h k =
