@@ -19,7 +19,8 @@ use Rattle.tables.proofs.Read.{words-length}
 use Rattle.join.specs.Held.{Holds, Sound, Changed}
 use Rattle.join.specs.Reads.{holds-held, sound}
 use Rattle.join.specs.Joins.{join-holds}
-use Rattle.combine.specs.Pairs.{Forward, Low, forward, to-pair, pair-up, low-join, forward-join, low-none, low-pair, low-more, fuel-join, fuel-none}
+use Rattle.combine.specs.Kept.{Forward, Low, low-join, forward-join}
+use Rattle.combine.specs.Pairs.{forward, to-pair, pair-up, low-none, low-pair, low-more, fuel-join, fuel-none}
 
 -- the tables hold the sections ss, of which there are r, with as many instructions as before
 pub record Combined (s i s′ i′ : List ℕ) (n e : ℕ) (ss : List SectionCode) (r : ℕ) : Type 0 where

@@ -21,7 +21,7 @@ use Rattle.walks.specs.Fits.{Held, Counted, SectFit, NextFit, AllAt, MachineFit
 use Rattle.tables.specs.Runs.{held}
 use Rattle.join.specs.Held.{NextSmall, SectSmall, Holds, Sound}
 use Rattle.join.specs.Reads.{sound, holds-held}
-use Rattle.join.specs.Joins.{all-left, all-right}
+use Rattle.join.specs.Small.{all-left, all-right}
 
 -- ---- what keeps the rules fits its fields
 module _ (u : Counts) (c : Counted u) where
