@@ -1,18 +1,18 @@
 -- Each way out of the tests on one section. Assumes nothing.
 use mathlib.Core.Path.{_≡_, refl, sym, ap, _∙_}
-use mathlib.Core.Bool.{Bool, true, false, cond, not, _&&_, _||_}
+use mathlib.Core.Bool.{Bool, true, false, cond, _||_}
 use mathlib.Core.Option.{Option, none, some}
 use mathlib.Core.List.{List}
 use Prim.Native.Nat.{ℕ, _+_, _<_, _≤_}
 use native.Mathlib.Omega.{arith}
-use lib.Dec.{eqb, leb, ltb}
+use lib.Dec.{eqb, leb}
 use lib.ListN.{length, take, getD, length-take}
 use borrow.Author.Tests.{eq-eqb, ne-eqb, lt-ltb, le-ltb}
 use Rattle.rules.specs.Bits.{isOne}
 use Rattle.rules.specs.Word.{wordRun}
-use Rattle.rules.specs.Machine.{SectionOrLine, unfixed, section, line, SectionCode, absent}
+use Rattle.rules.specs.Machine.{SectionOrLine, unfixed, section, line, absent}
 use Rattle.rules.specs.Tables.{successOf}
-use Rattle.rules.specs.Combine.{hit, refs, mayTake, mate}
+use Rattle.rules.specs.Combine.{refs, mayTake, mate}
 use Rattle.tables.specs.Runs.{total, held}
 use Rattle.join.specs.Held.{Sound}
 use Rattle.join.specs.Joins.{enough, enough-code}
@@ -22,7 +22,6 @@ use Rattle.combine.specs.Counting.{nextOf, hits, refsNexts, refsJumps, r
 use Rattle.combine.specs.Tests.{startAt, nextIn, wordAhead, start-at, success-at, past-at}
 
 -- ---- references
-
 pub hit-yes : (t u : ℕ) → u ≡ t → 1 ≡ hits t (some u)
 hit-yes t u e = rw (eq-eqb u t e)
 

@@ -1,27 +1,25 @@
 -- `combine` of the rules at each way out of the code. Assumes that words have their bits.
 use mathlib.Core.Path.{_≡_, refl, sym, ap, _∙_}
-use mathlib.Core.Bool.{Bool, true, false}
+use mathlib.Core.Bool.{true, false}
 use mathlib.Core.List.{List, _++_, map}
 use Prim.Native.Nat.{ℕ, _+_, _-_, _^_, _<_, _≤_, max}
 use native.Mathlib.Omega.{arith}
 use native.Mathlib.Nat.{max-eq-left, sub-self}
-use lib.IntN.{ℤ, pos}
-use lib.ListN.{length, take, drop, getD, replicate, length-map}
+use lib.IntN.{pos}
+use lib.ListN.{length, take, drop, getD, length-map}
 use lib.Seq.{length-take-le}
-use Rattle.rules.specs.Bits.{Res, refused, ok}
+use Rattle.rules.specs.Bits.{refused, ok}
 use Rattle.rules.specs.Refusal as Refusal
 use Rattle.rules.specs.Word.{insWord, wordSpan}
-use Rattle.rules.specs.Machine.{SectionCode, Machine, withSections}
-use Rattle.rules.specs.Tables.{Tables, Counts, all, fits, allCode, countsOf, readSections}
+use Rattle.rules.specs.Machine.{Machine, withSections}
+use Rattle.rules.specs.Tables.{Tables, Counts, all, fits, allCode, countsOf}
 use Rattle.rules.specs.Operations.{put, write, fixedHere, allAhead, combineIn, combine}
 use Rattle.rules.specs.Combine.{combineSections, combined}
 use Rattle.tables.specs.Runs.{fixedWord, held}
 use Rattle.tables.proofs.Sound.{Sound as Keeps, sound}
 use Rattle.tables.proofs.Change.{machineOf, change-12, change-no, change-ok, counts-of, written, put-back, strings-back}
-use Rattle.join.specs.Held.{Changed, Sound}
 use Rattle.combine.specs.Tests.{wordsAhead, fixed-are, ahead-from}
 use Rattle.combine.specs.Loop.{Combined}
-use Rattle.combine.specs.Again.{Wide, fits-sound}
 
 -- as many words as there were
 put-all : (n : ℕ) (ws t : List ℕ) → n ≡ length ws → ws ++ drop n t ≡ put 0 n ws t

@@ -1,19 +1,19 @@
 -- Words that keep the rules are the words of what they hold: `fits-sound`. Assumes that each word has 64 bits.
 use mathlib.Core.Path.{_≡_, refl, sym, ap, ap₂, _∙_}
-use mathlib.Core.Bool.{Bool, true, false, cond, _&&_}
+use mathlib.Core.Bool.{Bool, true, false, _&&_}
 use mathlib.Core.Option.{Option, none, some}
-use mathlib.Core.List.{List, [], _∷_, _++_, map, map-append}
+use mathlib.Core.List.{List, [], _∷_, map, map-append}
 use Prim.Native.Nat.{ℕ, zero, suc, _+_, _^_, _<_, _≤_}
 use native.Mathlib.Omega.{arith}
 use lib.Dec.{eqb}
-use lib.ListN.{length, take, drop, getD, length-map, length-drop, take-append-drop, length-take}
+use lib.ListN.{length, take, drop, getD, length-map, length-drop, take-append-drop}
 use lib.Seq.{length-take-le}
 use borrow.Author.Tests.{eqb-true, eqb-false}
 use Rattle.rules.specs.Bits.{isOne}
 use Rattle.rules.specs.Constants.{mark}
-use Rattle.rules.specs.Instr.{Instruction, Kind, kinds}
+use Rattle.rules.specs.Instr.{Kind, kinds}
 use Rattle.rules.specs.Word.{insWord, wordIns, insSpare, Run, runWord, wordRun, runSpare}
-use Rattle.rules.specs.Machine.{SectionOrLine, unfixed, section, line, SectionCode}
+use Rattle.rules.specs.Machine.{unfixed, section, line}
 use Rattle.rules.specs.Tables.{Tables, Counts, all, insFits, fieldFits, successFits, startFits, runsFit, flag, kindOf, targetOf, successOf, readSections, runWords, allCode}
 use Rattle.rules.specs.Demand.{All}
 use Rattle.laws.specs.Words.{InsSmall, ins-small, ins-again, run-small, run-again}
@@ -23,7 +23,7 @@ use Rattle.tables.specs.Rules.{sectionFits}
 use Rattle.tables.specs.Runs.{countOf, total, sectionOf, held}
 use Rattle.tables.proofs.Sound.{no, Sound as Keeps}
 use Rattle.tables.proofs.Read.{read-nil, read-cons, read-length, all-cons, whole-total}
-use Rattle.join.specs.Held.{NextSmall, SectSmall, Holds, Sound}
+use Rattle.join.specs.Held.{NextSmall, SectSmall, Sound}
 use Rattle.join.specs.Tells.{no-words, words-cons, no-code, code-cons}
 use Rattle.combine.specs.Counting.{total-nil, total-cons, one-code}
 use Rattle.combine.specs.Pairs.{both}

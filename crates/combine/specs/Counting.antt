@@ -3,12 +3,12 @@ use mathlib.Core.Path.{_≡_, refl, sym, ap, _∙_}
 use mathlib.Core.Bool.{Bool, true, false, cond}
 use mathlib.Core.Option.{Option, none, some}
 use mathlib.Core.List.{List, [], _∷_, _++_, map}
-use Prim.Native.Nat.{ℕ, zero, suc, _+_, _<_, _≤_}
+use Prim.Native.Nat.{ℕ, _+_}
 use native.Mathlib.Omega.{arith}
 use lib.ListN.{length, take, drop, length-drop, take-append-drop}
 use Rattle.rules.specs.Instr.{Instruction, isJump, getSection}
 use Rattle.rules.specs.Word.{wordRun, wordIns}
-use Rattle.rules.specs.Machine.{SectionOrLine, unfixed, section, line, SectionCode}
+use Rattle.rules.specs.Machine.{SectionOrLine, unfixed, section, line}
 use Rattle.rules.specs.Tables.{successOf, readSections}
 use Rattle.rules.specs.Combine.{hit, refsNext, refsIns, refsCode, refs}
 use Rattle.tables.specs.Runs.{countOf, total, sectionOf}

@@ -1,25 +1,26 @@
 -- What the pass leaves, and what holds of the tables on the way. Assumes nothing.
-use mathlib.Core.Path.{_≡_, refl, sym, ap, _∙_, subst}
-use mathlib.Core.Option.{Option, none, some}
-use mathlib.Core.List.{List, [], _∷_, _++_, map, append-assoc}
-use Prim.Native.Nat.{ℕ, zero, suc, _+_, _-_, _<_, _≤_, max}
+use mathlib.Core.Path.{_≡_, sym, ap, _∙_, subst}
+use mathlib.Core.Option.{none, some}
+use mathlib.Core.List.{List, _++_, map, append-assoc}
+use Prim.Native.Nat.{ℕ, _+_, _-_, _<_, _≤_, max}
 use native.Mathlib.Omega.{arith}
 use native.Mathlib.Nat.{max-eq-left}
-use lib.ListN.{length, take, drop, getD, replicate, length-map, replicate-append-replicate, take-append-drop}
-use lib.Seq.{take-at, drop-at}
+use lib.ListN.{length, drop, getD, replicate, length-map, replicate-append-replicate, take-append-drop}
+use lib.Seq.{drop-at}
 use mathlib.Core.Bool.{true}
 use Rattle.rules.specs.Word.{insWord}
 use Rattle.rules.specs.Machine.{SectionCode, absent}
 use Rattle.rules.specs.Tables.{runWords, allCode}
 use Rattle.rules.specs.Operations.{put, allAhead}
-use Rattle.rules.specs.Combine.{mate, pair, combineAt, combineFuel, combineSections}
+use Rattle.rules.specs.Combine.{mate, combineAt, combineFuel, combineSections}
 use Rattle.walks.specs.CombineWalk.{Pair}
 use Rattle.tables.specs.Runs.{held}
 use Rattle.tables.proofs.Read.{words-length}
 use Rattle.join.specs.Held.{Holds, Sound, Changed}
 use Rattle.join.specs.Reads.{holds-held, sound}
 use Rattle.join.specs.Joins.{join-holds}
-use Rattle.combine.specs.Pairs.{Forward, Low, forward, to-pair, pair-up, low-join, forward-join, low-none, low-pair, low-more, fuel-join, fuel-none}
+use Rattle.combine.specs.Kept.{Forward, Low, low-join, forward-join}
+use Rattle.combine.specs.Pairs.{forward, to-pair, pair-up, low-none, low-pair, low-more, fuel-join, fuel-none}
 
 -- the tables hold the sections ss, of which there are r, with as many instructions as before
 pub record Combined (s i s′ i′ : List ℕ) (n e : ℕ) (ss : List SectionCode) (r : ℕ) : Type 0 where

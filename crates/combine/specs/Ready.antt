@@ -1,10 +1,10 @@
 -- A machine that keeps the rules and that combine does not refuse, in tables: what `combine_all` asks holds, and what the words hold is the
 -- machine. So a caller that has written such a machine needs no check. Assumes nothing.
-use mathlib.Core.Path.{_≡_, refl, sym, ap, _∙_, subst}
+use mathlib.Core.Path.{_≡_, refl}
 use mathlib.Core.Bool.{Bool, true, false}
 use mathlib.Core.Option.{Option, none, some}
-use mathlib.Core.List.{List, [], _∷_, _++_, map}
-use Prim.Native.Nat.{ℕ, suc, _+_, _<_, _≤_}
+use mathlib.Core.List.{List, [], _∷_, map}
+use Prim.Native.Nat.{ℕ, suc}
 use native.Mathlib.Omega.{arith}
 use lib.ListN.{length, take}
 use Rattle.rules.specs.Bits.{Res, refused, ok}
@@ -21,10 +21,9 @@ use Rattle.walks.specs.Fits.{Held, Counted, SectFit, NextFit, AllAt, MachineFit
 use Rattle.tables.specs.Runs.{held}
 use Rattle.join.specs.Held.{NextSmall, SectSmall, Holds, Sound}
 use Rattle.join.specs.Reads.{sound, holds-held}
-use Rattle.join.specs.Joins.{all-left, all-right}
+use Rattle.join.specs.Small.{all-left, all-right}
 
 -- ---- what keeps the rules fits its fields
-
 module _ (u : Counts) (c : Counted u) where
   ins-small : (i : Instruction) → Held u (kinds (i .op)) i → InsSmall i
   ins-small i h = go (kinds (i .op)) refl h

@@ -1,17 +1,17 @@
 -- The tests of 14 and 15 on words, and that they are those of `rules` on what the words hold. Assumes nothing.
 use mathlib.Core.Path.{_≡_, refl, sym, ap, _∙_}
 use mathlib.Core.Bool.{Bool, true, false, cond, _||_}
-use mathlib.Core.Option.{Option, none, some}
-use mathlib.Core.List.{List, [], _∷_, _++_, map}
-use Prim.Native.Nat.{ℕ, zero, suc, _+_, _<_, _≤_}
+use mathlib.Core.Option.{none, some}
+use mathlib.Core.List.{List, [], _∷_}
+use Prim.Native.Nat.{ℕ, zero, suc, _<_, _≤_}
 use native.Mathlib.Omega.{arith}
 use lib.Dec.{leb, ltb}
 use lib.ListN.{length, take, drop, getD, getElem?}
 use lib.Seq.{getD-take, length-take-le}
-use borrow.Author.Tests.{lt-ltb, le-ltb, ltb-true, ltb-false}
+use borrow.Author.Tests.{ltb-true, ltb-false}
 use Rattle.rules.specs.Bits.{isOne}
 use Rattle.rules.specs.Word.{wordRun}
-use Rattle.rules.specs.Machine.{SectionOrLine, unfixed, section, line, isFixed, SectionCode, absent}
+use Rattle.rules.specs.Machine.{SectionOrLine, unfixed, section, line, SectionCode, absent}
 use Rattle.rules.specs.Tables.{all, successOf, readSections}
 use Rattle.rules.specs.Operations.{fixedHere, nextAhead, allAhead}
 use Rattle.tables.specs.Runs.{countOf, sectionOf, fixedWord}

@@ -35,7 +35,8 @@ fn may_take(
     if at >= n {
         return false;
     }
-    if SectionWord(sections[at]).line_start() {
+    let w = sections[at];
+    if SectionWord(w).line_start() {
         return false;
     }
     only_reachable_once(s2, sections, instructions, n, e)

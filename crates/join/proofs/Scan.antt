@@ -1,17 +1,16 @@
 -- Words of a table changed in place, one turn after the other: what is done, then what is left to do, is all that was to do. Assumes nothing.
-use mathlib.Core.Path.{_≡_, refl, sym, ap, _∙_}
-use mathlib.Core.List.{List, [], _∷_, _++_, map, append-assoc}
-use Prim.Native.Nat.{ℕ, zero, suc, _+_, _-_, _<_, _≤_}
+use mathlib.Core.Path.{_≡_, _∙_}
+use mathlib.Core.List.{List, _∷_, _++_, append-assoc}
+use Prim.Native.Nat.{ℕ, suc, _+_, _-_, _<_, _≤_}
 use native.Mathlib.Omega.{arith}
 use native.Mathlib.Numerals.{add-one}
-use lib.ListN.{length, take, drop, getD, set, take-append-drop, length-set}
-use lib.Seq.{slice, slice-cons, slice-empty, take-suc-set, take-set-lt, drop-set-lt, append-snoc, set-split}
+use lib.ListN.{length, take, drop, getD, set, take-append-drop}
+use lib.Seq.{slice, slice-cons, slice-empty, append-snoc, set-split}
 use Rattle.tables.specs.Runs.{countOf, total, Down}
 use Rattle.tables.proofs.InPlace.{set-taken, set-left, set-rest, drop-take}
 use Rattle.join.specs.Passes.{cutOut, wordAt, numbered}
 
 -- ---- numbered anew
-
 module _ (j : ℕ) (s : List ℕ) (i n k : ℕ) where
   pub number-done : n ≤ i → i ≤ n → take i s ++ (numbered j k (slice i n s) ++ drop n s) ≡ s
   unfolding numbered

@@ -1,11 +1,11 @@
 -- A part reversed in place, and two parts exchanged by three reversals. Assumes nothing.
 use mathlib.Core.Path.{_≡_, refl, sym, ap, _∙_}
-use mathlib.Core.List.{List, [], _∷_, _++_, append-assoc, append-nil, reverse, reverse-cons, reverse-append, reverse-reverse}
-use Prim.Native.Nat.{ℕ, zero, suc, _+_, _-_, _<_, _≤_}
+use mathlib.Core.List.{List, [], _∷_, _++_, append-assoc, reverse, reverse-cons, reverse-append, reverse-reverse}
+use Prim.Native.Nat.{ℕ, suc, _+_, _-_, _<_, _≤_}
 use native.Mathlib.Omega.{arith}
 use native.Mathlib.Numerals.{add-one}
-use lib.ListN.{length, take, drop, getD, set, take-append-drop, length-set, length-append, length-take, length-drop, length-reverse}
-use lib.Seq.{slice, slice-cons, slice-empty, length-slice, length-take-le, take-suc, drop-cons, take-set-le, drop-set-lt, drop-append-le, getD-set-same, append-snoc, take-at, drop-at, drop-drop, take-append-le}
+use lib.ListN.{length, take, drop, getD, set, take-append-drop, length-set, length-append, length-reverse}
+use lib.Seq.{slice, slice-cons, length-slice, length-take-le, take-suc, drop-cons, take-set-le, drop-set-lt, drop-append-le, getD-set-same, take-at, drop-at}
 use Rattle.join.specs.Parts.{turned, exchanged}
 use Rattle.tables.proofs.InPlace.{set-taken, set-left}
 

@@ -3,7 +3,6 @@ use mathlib.Core.Path.{_≡_}
 use mathlib.Core.List.{List, _++_, map}
 use Prim.Native.Nat.{ℕ, _≤_, _<_}
 use lib.ListN.{length, take, drop}
-use Rattle.rules.specs.Instr.{Instruction}
 use Rattle.rules.specs.Word.{insWord}
 use Rattle.rules.specs.Machine.{SectionOrLine, unfixed, section, line, SectionCode}
 use Rattle.rules.specs.Tables.{runWords, allCode}

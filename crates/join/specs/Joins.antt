@@ -1,119 +1,33 @@
 -- What the steps of a join leave in the tables is the join of what they held: `joins`, and so they hold it: `join-holds`. Assumes that the
 -- words hold sections, runs end to end, and that S2 stands above S1.
-use mathlib.Core.Path.{_≡_, refl, sym, ap, ap₂, _∙_, subst}
-use mathlib.Core.Logic.{_⊎_, inl, inr}
-use mathlib.Core.Bool.{Bool, true, false, cond}
-use mathlib.Core.List.{List, [], _∷_, _++_, map, append-assoc, map-append}
-use Prim.Native.Nat.{ℕ, zero, suc, _+_, _-_, _^_, _<_, _≤_, max}
+use mathlib.Core.Path.{_≡_, sym, ap, _∙_, subst}
+use mathlib.Core.List.{List, _∷_, _++_, map, append-assoc, map-append}
+use Prim.Native.Nat.{ℕ, suc, _+_, _-_, _<_, _≤_, max}
 use native.Mathlib.Omega.{arith}
 use native.Mathlib.Nat.{max-eq-left}
-use lib.ListN.{length, take, drop, getD, set, replicate, take-append-drop, length-append, length-map, length-drop, length-take}
+use lib.ListN.{length, take, drop, getD, set, take-append-drop, length-append, length-map, length-drop, length-take}
 use lib.Seq.{slice, take-at, drop-at, getD-at, set-at, length-slice, length-take-le}
-use Rattle.rules.specs.Instr.{Instruction, isJump, fall, removeSection}
-use Rattle.rules.specs.Word.{runWord, wordRun, insWord, wordIns}
-use Rattle.rules.specs.Machine.{SectionOrLine, unfixed, section, line, SectionCode, absent}
+use Rattle.rules.specs.Instr.{Instruction, fall}
+use Rattle.rules.specs.Word.{runWord, wordRun, insWord}
+use Rattle.rules.specs.Machine.{section, SectionCode, absent}
 use Rattle.rules.specs.Tables.{runWords, allCode}
 use Rattle.rules.specs.Operations.{put}
-use Rattle.rules.specs.Clean.{renIns, renNext, ren}
+use Rattle.rules.specs.Clean.{renIns, ren}
 use Rattle.rules.specs.Combine.{joined, combineAt}
 use Rattle.rules.specs.Demand.{All}
-use Rattle.laws.specs.Words.{InsSmall, ins-back, run-small}
+use Rattle.laws.specs.Words.{InsSmall}
 use Rattle.words.specs.Runs.{runOf}
-use Rattle.walks.specs.CombineWalk.{lt-or-le, fall-low, fall-high}
 use Rattle.tables.specs.Runs.{countOf, total}
 use Rattle.tables.proofs.Read.{words-length}
-use Rattle.join.specs.Held.{NextSmall, SectSmall, Holds, Changed}
+use Rattle.join.specs.Held.{SectSmall, Holds, Changed}
 use Rattle.join.specs.Parts.{exchanged}
 use Rattle.join.specs.Passes.{jumpFallen, mergedWord, cutOut, numbered}
-use Rattle.join.specs.Tells.{Tells, Tell, tell, tells, tell-append, tell-total, tell-length, merged, settles, words-cons, words-append, code-cons, code-append, code-longer, first-is, count-is}
+use Rattle.join.specs.Tells.{Tell, tell, tells, tell-append, tell-total, tell-length, merged, settles, words-cons, words-append, code-append, code-longer, first-is, count-is}
 use Rattle.join.specs.Parted.{cut-two, join-parts, code-map, code-before, code-after}
-
--- ---- words cut and exchanged
-
--- a part of a list by what stands before and behind it
-slice-at : (p x q : List ℕ) (a b : ℕ) → length p ≡ a → a + length x ≡ b → slice a b (p ++ (x ++ q)) ≡ x
-slice-at p x q a b h k =
-    let z : length (p ++ x) ≡ b = length-append p x ∙ (let y : length p + length x ≡ b = omega arith in y) in
-    rw (← append-assoc p x q, take-at (p ++ x) q b z) (drop-at p x a h)
-
-rest-at : (p x q : List ℕ) (a b : ℕ) → length p ≡ a → a + length x ≡ b → drop b (p ++ (x ++ q)) ≡ q
-rest-at p x q a b h k =
-    let z : length (p ++ x) ≡ b = length-append p x ∙ (let y : length p + length x ≡ b = omega arith in y) in
-    rw (← append-assoc p x q) (drop-at (p ++ x) q b z)
-
-exchange-at : (p x y q : List ℕ) (a m b : ℕ) → length p ≡ a → a + length x ≡ m → m + length y ≡ b → exchanged a m b (p ++ (x ++ (y ++ q))) ≡ p ++ (y ++ (x ++ q))
-unfolding exchanged
-exchange-at p x y q a m b hp hx hy =
-    let z : length (p ++ x) ≡ m = length-append p x ∙ (let w : length p + length x ≡ m = omega arith in w) in
-    let l : p ++ (x ++ (y ++ q)) ≡ (p ++ x) ++ (y ++ q) = sym (append-assoc p x (y ++ q)) in
-    let s : slice m b (p ++ (x ++ (y ++ q))) ≡ y = rw l (slice-at (p ++ x) y q m b z hy) in
-    let d : drop b (p ++ (x ++ (y ++ q))) ≡ q = rw l (rest-at (p ++ x) y q m b z hy) in
-    rw (s, d, slice-at p x (y ++ q) a m hp hx, take-at p (x ++ (y ++ q)) a hp)
-
-cut-at : (p : List ℕ) (x : ℕ) (z r : List ℕ) (j n : ℕ) → length p ≡ j → j + 1 + length z ≡ n → cutOut j n (p ++ (x ∷ (z ++ r))) ≡ (p ++ z) ++ (0 ∷ r)
-unfolding cutOut
-cut-at p x z r j n h k =
-    let l : p ++ (x ∷ (z ++ r)) ≡ (p ++ (x ∷ [])) ++ (z ++ r) = sym (append-assoc p (x ∷ []) (z ++ r)) in
-    let e : length (p ++ (x ∷ [])) ≡ suc j = length-append p (x ∷ []) ∙ (let y : length p + 1 ≡ suc j = omega arith in y) in
-    let f : suc j + length z ≡ n = omega arith in
-    let s : slice (suc j) n (p ++ (x ∷ (z ++ r))) ≡ z = rw l (slice-at (p ++ (x ∷ [])) z r (suc j) n e f) in
-    let d : drop n (p ++ (x ∷ (z ++ r))) ≡ r = rw l (rest-at (p ++ (x ∷ [])) z r (suc j) n e f) in
-    rw (s, d, take-at p (x ∷ (z ++ r)) j h) (sym (append-assoc p z (0 ∷ r)))
-
--- ---- what fits fields
-
-pub all-left : {A : Type 0} (P : A → Type 0) (a b : List A) → All P (a ++ b) → All P a
-all-left P [] b h = tt
-all-left P (x ∷ a) b h = (h .0, all-left P a b (h .1))
-
-pub all-right : {A : Type 0} (P : A → Type 0) (a b : List A) → All P (a ++ b) → All P b
-all-right P [] b h = h
-all-right P (x ∷ a) b h = all-right P a b (h .1)
-
-pub all-append : {A : Type 0} (P : A → Type 0) (a b : List A) → All P a → All P b → All P (a ++ b)
-all-append P [] b p q = q
-all-append P (x ∷ a) b p q = (p .0, all-append P a b (p .1) q)
-
-code-small : (ss : List SectionCode) → All SectSmall ss → All InsSmall (allCode ss)
-unfolding allCode
-code-small [] h = tt
-code-small (s ∷ ss) h = all-append InsSmall (s .instrs) (allCode ss) (h .0 .1) (code-small ss (h .1))
-
-fall-le : (j t : ℕ) → fall j t ≤ t
-fall-le j t = go (lt-or-le j t)
-  where
-    go : (j < t) ⊎ (t ≤ j) → fall j t ≤ t
-    go (inl p) = rw (fall-high j t p) (omega arith)
-    go (inr p) = rw (fall-low j t p) (omega arith)
-
-ins-fall : (j : ℕ) (c : List Instruction) → All InsSmall c → All InsSmall (map (renIns (fall j)) c)
-ins-fall j [] h = tt
-ins-fall j (i ∷ c) h = ((h .0 .0, (aim (isJump i), h .0 .1 .1)), ins-fall j c (h .1))
-  where
-    aim : (b : Bool) → cond b (fall j (i .fst)) (i .fst) < 2 ^ 16
-    aim true = omega (arith, fall-le j (i .fst), h .0 .1 .0)
-    aim false = h .0 .1 .0
-
-next-fall : (j : ℕ) (x : SectionOrLine) → NextSmall x → NextSmall (renNext (fall j) x)
-next-fall j unfixed h = tt
-next-fall j (section t) h = omega (arith, fall-le j t)
-next-fall j (line r) h = h
-
-small-fall : (j : ℕ) (ss : List SectionCode) → All SectSmall ss → All SectSmall (map (ren (fall j)) ss)
-small-fall j [] h = tt
-small-fall j (s ∷ ss) h = ((next-fall j (s .success) (h .0 .0), ins-fall j (s .instrs) (h .0 .1)), small-fall j ss (h .1))
-
--- jumps of words that were written
-jump-fall : (j : ℕ) (i : Instruction) → InsSmall i → jumpFallen j (insWord i) ≡ insWord (renIns (fall j) i)
-unfolding jumpFallen
-jump-fall j i h = rw (ins-back i h)
-
-jumps-fall : (j : ℕ) (c : List Instruction) → All InsSmall c → map (jumpFallen j) (map insWord c) ≡ map insWord (map (renIns (fall j)) c)
-jumps-fall j [] h = refl
-jumps-fall j (i ∷ c) h = rw (jump-fall j i (h .0), jumps-fall j c (h .1))
+use Rattle.join.specs.Cuts.{exchange-at, cut-at}
+use Rattle.join.specs.Small.{all-left, all-right, all-append, code-small, small-fall, jumps-fall}
 
 -- ---- the steps
-
 -- what is asked on the way, and what is left at the end: section i takes section j in, and `new` are the sections afterwards
 pub record Steps (S I : List ℕ) (n e i j : ℕ) (new : List SectionCode) : Type 0 where
   pub apart : wordRun (getD S i 0) .first + wordRun (getD S i 0) .count ≤ wordRun (getD S j 0) .first

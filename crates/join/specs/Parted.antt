@@ -5,7 +5,7 @@ use Prim.Native.Nat.{ℕ, zero, suc, _+_, _<_, _≤_}
 use native.Mathlib.Omega.{arith}
 use lib.ListN.{length, take, drop, getD, set, length-append}
 use lib.Seq.{slice, take-take, getD-take, split-at, getD-at, set-at, length-take-le}
-use Rattle.rules.specs.Instr.{Instruction, fall}
+use Rattle.rules.specs.Instr.{fall}
 use Rattle.rules.specs.Machine.{SectionCode, absent}
 use Rattle.rules.specs.Tables.{allCode}
 use Rattle.rules.specs.Clean.{renIns, ren}
@@ -13,7 +13,6 @@ use Rattle.rules.specs.Combine.{without, joined, combineAt}
 use Rattle.join.specs.Tells.{no-code, code-cons, code-append}
 
 -- ---- a list cut at two places
-
 pub cut-two : {A : Type 0} (d : A) (l : List A) (i j : ℕ) → i < j → j < length l → l ≡ take i l ++ (getD l i d ∷ (slice (suc i) j l ++ (getD l j d ∷ drop (suc j) l)))
 cut-two {A} d l i j p q =
     let r : length (take j l) ≡ j = length-take-le j l (omega arith) in

@@ -1,22 +1,21 @@
 -- The words of sections hold them: what is written is read back. Assumes nothing.
-use mathlib.Core.Path.{_≡_, refl, sym, ap, ap₂, _∙_}
+use mathlib.Core.Path.{_≡_, refl}
 use mathlib.Core.Bool.{Bool}
 use mathlib.Core.List.{List, [], _∷_, _++_, map, map-append}
-use Prim.Native.Nat.{ℕ, _+_, _≤_}
+use Prim.Native.Nat.{ℕ, _+_}
 use native.Mathlib.Omega.{arith}
-use lib.ListN.{length, take, drop, length-map}
+use lib.ListN.{length, drop, length-map}
 use lib.Seq.{take-at, drop-at}
-use Rattle.rules.specs.Bits.{isOne}
 use Rattle.rules.specs.Instr.{Instruction}
-use Rattle.rules.specs.Word.{wordRun, insWord, wordIns}
+use Rattle.rules.specs.Word.{insWord, wordIns}
 use Rattle.rules.specs.Machine.{SectionOrLine, SectionCode}
-use Rattle.rules.specs.Tables.{successOf, runWords, allCode, readSections}
+use Rattle.rules.specs.Tables.{runWords, allCode, readSections}
 use Rattle.rules.specs.Demand.{All}
 use Rattle.laws.specs.Words.{InsSmall, ins-back}
 use Rattle.tables.specs.Runs.{countOf, sectionOf, held}
 use Rattle.tables.proofs.Read.{read-nil, read-cons}
 use Rattle.join.specs.Held.{SectSmall, Holds}
-use Rattle.join.specs.Tells.{Tells, Tell, tell, no-code, code-cons}
+use Rattle.join.specs.Tells.{Tells, Tell, tell, code-cons}
 
 pub code-back : (c : List Instruction) → All InsSmall c → map wordIns (map insWord c) ≡ c
 code-back [] h = refl

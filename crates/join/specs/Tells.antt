@@ -1,23 +1,21 @@
 -- Which section a section's word tells, and what the passes of a join make of words that tell sections. Assumes nothing.
-use mathlib.Core.Path.{_≡_, refl, sym, ap, ap₂, _∙_}
-use mathlib.Core.Bool.{Bool, true, false}
-use mathlib.Core.List.{List, [], _∷_, _++_, map, append-assoc, map-append}
-use Prim.Native.Nat.{ℕ, zero, suc, _+_, _<_, _≤_}
+use mathlib.Core.Path.{_≡_, refl, sym, ap, _∙_}
+use mathlib.Core.Bool.{Bool}
+use mathlib.Core.List.{List, [], _∷_, _++_, map, append-assoc}
+use Prim.Native.Nat.{ℕ, suc, _+_, _<_, _≤_}
 use native.Mathlib.Omega.{arith}
-use lib.Dec.{eqb}
-use lib.ListN.{length, take, drop, length-append, length-map}
-use lib.Seq.{take-at, drop-at}
+use lib.ListN.{length, length-append, length-map}
 use borrow.Author.Tests.{ne-eqb}
 use Rattle.rules.specs.Bits.{isOne}
 use Rattle.rules.specs.Constants.{mark}
-use Rattle.rules.specs.Instr.{Instruction, fall}
-use Rattle.rules.specs.Word.{Run, runWord, wordRun, insWord, wordIns}
+use Rattle.rules.specs.Instr.{fall}
+use Rattle.rules.specs.Word.{runWord, wordRun}
 use Rattle.rules.specs.Machine.{SectionOrLine, unfixed, section, line, SectionCode}
-use Rattle.rules.specs.Tables.{flag, kindOf, targetOf, successOf, runWords, allCode, readSections}
+use Rattle.rules.specs.Tables.{kindOf, targetOf, successOf, runWords, allCode}
 use Rattle.rules.specs.Clean.{renNext, ren}
 use Rattle.rules.specs.Combine.{joined}
 use Rattle.rules.specs.Demand.{All}
-use Rattle.laws.specs.Words.{RunSmall, run-back, InsSmall, ins-back}
+use Rattle.laws.specs.Words.{run-back}
 use Rattle.words.specs.Runs.{runOf}
 use Rattle.laws.specs.Success.{flag-lt, kind-lt}
 use Rattle.walks.specs.Fits.{flag-one}

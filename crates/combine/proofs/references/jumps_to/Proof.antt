@@ -1,17 +1,14 @@
-use Rattle.combine.proofs.Walks.{jumps-done, jumps-more}
-use Rattle.combine.specs.Counting.{hits, refsJumps}
-use lib.Seq.{slice}
-use lib.ListN.{length, take, getD}
-use Prim.Native.Nat.{ℕ, _≤_, _<_, _+_, _-_}
+-- `references::jumps_to` meets its contract. The loop keeps the sum of what is counted and what is left. Assumes nothing.
+use mathlib.Core.Path.{_≡_, _∙_}
+use Prim.Native.Nat.{_≤_, _+_, _-_}
 use native.Mathlib.Omega.{arith}
-use mathlib.Core.Path.{_≡_, refl, sym, ap, _∙_}
+use lib.Seq.{slice}
+use lib.ListN.{take}
 use borrow.Author.Needs.{needs}
+use Rattle.combine.proofs.Walks.{jumps-done, jumps-more}
+use Rattle.combine.specs.Counting.{refsJumps}
 use Rattle.combine.proofs.references.jumps_to.Statement.{statement}
 use Rattle.combine.proofs.references.jumps_to.Tie as tie
-use Rattle.combine.proofs.references.jumps_to.Reads as reads
-use Rattle.combine.proofs.references.jumps_to.Lts as lts
-use Rattle.combine.proofs.references.reaches.Reads as reaches-reads
-use Rattle.words.proofs.instr.Instruction.get_section.Reads as get-section-reads
 
 abbrev Inv-loop : tie.InvT-loop
 Inv-loop s2 instructions e count₀ i₀ count i = (i ≤ e) × (count ≤ i) × (count + refsJumps (s2 .0) (slice i e instructions) ≡ refsJumps (s2 .0) (take e instructions))
@@ -19,47 +16,37 @@ Inv-loop s2 instructions e count₀ i₀ count i = (i ≤ e) × (count ≤ i) ×
 abbrev μ-loop : tie.MeasureT-loop
 μ-loop s2 instructions e count₀ i₀ count i = e - i
 
--- src/references.rt:61:5
 loop-holds : tie.Need-loop-holds Inv-loop μ-loop
 loop-holds c =
     (search needs, search needs, omega arith)
 
--- src/references.rt:62:38
 mul-t9 : tie.Need-mul-t9 Inv-loop μ-loop
 mul-t9 c = search needs
 
--- src/references.rt:62:38
 shared-slice-read-t11 : tie.Need-shared-slice-read-t11 Inv-loop μ-loop
 shared-slice-read-t11 c = search needs
 
--- src/references.rt:62:26
 get-section-requires : tie.Need-get-section-requires Inv-loop μ-loop
 get-section-requires c κs = search needs
 
--- src/references.rt:62:18
 reaches-requires : tie.Need-reaches-requires Inv-loop μ-loop
 reaches-requires c κs = search needs
 
--- src/references.rt:62:9
 add-count : tie.Need-add-count Inv-loop μ-loop
 add-count c = search needs
 
--- src/references.rt:63:9
 add-i : tie.Need-add-i Inv-loop μ-loop
 add-i c = search needs
 
--- src/references.rt:61:5
 loop-less : tie.Need-loop-less Inv-loop μ-loop
 loop-less c = search needs
 
--- src/references.rt:61:5
 loop-again : tie.Need-loop-again Inv-loop μ-loop
 loop-again c =
     let l = c .before .before .before .before .loop in
     let a = c .before .before .before .before .before .before .args in
     (search needs, search needs, jumps-more (a .s2 .0) (a .instructions .now) (l .i) (a .e) (l .count) (c .before .before .before .loop-test .taken) (c .before .before .before .before .before .before .pre) _ _ (c .before .get-section .ensures) (c .reaches .ensures .0) ∙ l .inv .2)
 
--- src/references.rt:55:1
 returns : tie.Need-returns Inv-loop μ-loop
 returns c =
     let l = c .before .loop in

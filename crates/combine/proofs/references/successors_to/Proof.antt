@@ -1,17 +1,14 @@
-use Rattle.combine.proofs.Walks.{nexts-done, nexts-more}
-use Rattle.combine.specs.Counting.{hits, refsNexts}
-use lib.Seq.{slice}
-use lib.ListN.{length, take, getD}
-use Prim.Native.Nat.{ℕ, _≤_, _<_, _+_, _-_}
+-- `references::successors_to` meets its contract. The loop keeps the sum of what is counted and what is left. Assumes nothing.
+use mathlib.Core.Path.{_≡_, _∙_}
+use Prim.Native.Nat.{_≤_, _+_, _-_}
 use native.Mathlib.Omega.{arith}
-use mathlib.Core.Path.{_≡_, refl, sym, ap, _∙_}
+use lib.Seq.{slice}
+use lib.ListN.{take}
 use borrow.Author.Needs.{needs}
+use Rattle.combine.proofs.Walks.{nexts-done, nexts-more}
+use Rattle.combine.specs.Counting.{refsNexts}
 use Rattle.combine.proofs.references.successors_to.Statement.{statement}
 use Rattle.combine.proofs.references.successors_to.Tie as tie
-use Rattle.combine.proofs.references.successors_to.Reads as reads
-use Rattle.combine.proofs.references.successors_to.Lts as lts
-use Rattle.combine.proofs.references.contiguous_to.Reads as contiguous-to-reads
-use Rattle.combine.proofs.references.reaches.Reads as reaches-reads
 
 abbrev Inv-loop : tie.InvT-loop
 Inv-loop s2 sections n count₀ i₀ count i = (i ≤ n) × (count ≤ i) × (count + refsNexts (s2 .0) (slice i n sections) ≡ refsNexts (s2 .0) (take n sections))
@@ -19,47 +16,37 @@ Inv-loop s2 sections n count₀ i₀ count i = (i ≤ n) × (count ≤ i) × (co
 abbrev μ-loop : tie.MeasureT-loop
 μ-loop s2 sections n count₀ i₀ count i = n - i
 
--- src/references.rt:47:5
 loop-holds : tie.Need-loop-holds Inv-loop μ-loop
 loop-holds c =
     (search needs, search needs, omega arith)
 
--- src/references.rt:48:52
 mul-t9 : tie.Need-mul-t9 Inv-loop μ-loop
 mul-t9 c = search needs
 
--- src/references.rt:48:52
 shared-slice-read-t11 : tie.Need-shared-slice-read-t11 Inv-loop μ-loop
 shared-slice-read-t11 c = search needs
 
--- src/references.rt:48:26
 contiguous-to-requires : tie.Need-contiguous-to-requires Inv-loop μ-loop
 contiguous-to-requires c κs = search needs
 
--- src/references.rt:48:18
 reaches-requires : tie.Need-reaches-requires Inv-loop μ-loop
 reaches-requires c κs = search needs
 
--- src/references.rt:48:9
 add-count : tie.Need-add-count Inv-loop μ-loop
 add-count c = search needs
 
--- src/references.rt:49:9
 add-i : tie.Need-add-i Inv-loop μ-loop
 add-i c = search needs
 
--- src/references.rt:47:5
 loop-less : tie.Need-loop-less Inv-loop μ-loop
 loop-less c = search needs
 
--- src/references.rt:47:5
 loop-again : tie.Need-loop-again Inv-loop μ-loop
 loop-again c =
     let l = c .before .before .before .before .loop in
     let a = c .before .before .before .before .before .before .args in
     (search needs, search needs, nexts-more (a .s2 .0) (a .sections .now) (l .i) (a .n) (l .count) (c .before .before .before .loop-test .taken) (c .before .before .before .before .before .before .pre) _ _ (c .before .contiguous-to .ensures) (c .reaches .ensures .0) ∙ l .inv .2)
 
--- src/references.rt:41:1
 returns : tie.Need-returns Inv-loop μ-loop
 returns c =
     let l = c .before .loop in

@@ -1,16 +1,13 @@
+-- `instructions::reverse` meets its contract. The loop keeps what is left to reverse: the list with lo..hi reversed is the one asked for. Assumes nothing.
+use mathlib.Core.Path.{_≡_, refl, sym, ap, _∙_}
+use Prim.Native.Nat.{ℕ, suc, _≤_, _<_, _-_}
+use native.Mathlib.Omega.{arith}
+use lib.ListN.{length, length-set}
+use borrow.Author.Needs.{needs}
 use Rattle.join.proofs.Turns.{turn-done, turn-more}
 use Rattle.join.specs.Parts.{turned}
-use lib.Seq.{slice}
-use lib.ListN.{length, take, drop, getD, length-set}
-use mathlib.Core.List.{_++_, map}
-use mathlib.Core.Path.{_≡_, refl, sym, ap, _∙_}
-use native.Mathlib.Omega.{arith}
-use Prim.Native.Nat.{ℕ, suc, _≤_, _<_, _+_, _-_}
-use borrow.Author.Needs.{needs}
 use Rattle.join.proofs.instructions.reverse.Statement.{statement}
 use Rattle.join.proofs.instructions.reverse.Tie as tie
-use Rattle.join.proofs.instructions.reverse.Reads as reads
-use Rattle.join.proofs.instructions.reverse.Lts as lts
 
 abbrev Inv-loop : tie.InvT-loop
 Inv-loop t₀ from to lo₀ hi₀ t lo hi = (lo ≤ hi) × (hi ≤ to) × (length t ≡ length t₀) × (turned lo hi t ≡ turned from to t₀)
@@ -18,48 +15,37 @@ Inv-loop t₀ from to lo₀ hi₀ t lo hi = (lo ≤ hi) × (hi ≤ to) × (lengt
 abbrev μ-loop : tie.MeasureT-loop
 μ-loop t₀ from to lo₀ hi₀ t lo hi = hi - lo
 
--- src/instructions.rt:20:5
 loop-holds : tie.Need-loop-holds Inv-loop μ-loop
 loop-holds c =
     (search needs, search needs, refl, refl)
 
--- src/instructions.rt:20:11
 add-loop : tie.Need-add-loop Inv-loop μ-loop
 add-loop c = search needs
 
--- src/instructions.rt:21:9
 sub-hi : tie.Need-sub-hi Inv-loop μ-loop
 sub-hi c = search needs
 
--- src/instructions.rt:22:17
 mul-x : tie.Need-mul-x Inv-loop μ-loop
 mul-x c = search needs
 
--- src/instructions.rt:22:17
 slice-read-x : tie.Need-slice-read-x Inv-loop μ-loop
 slice-read-x c = search needs
 
--- src/instructions.rt:23:17
 mul-y : tie.Need-mul-y Inv-loop μ-loop
 mul-y c = search needs
 
--- src/instructions.rt:23:17
 slice-read-y : tie.Need-slice-read-y Inv-loop μ-loop
 slice-read-y c = search needs
 
--- src/instructions.rt:24:9
 mul-t : tie.Need-mul-t Inv-loop μ-loop
 mul-t c = search needs
 
--- src/instructions.rt:24:9
 slice-write-t : tie.Need-slice-write-t Inv-loop μ-loop
 slice-write-t c = search needs
 
--- src/instructions.rt:25:9
 mul-t-2 : tie.Need-mul-t-2 Inv-loop μ-loop
 mul-t-2 c = search needs
 
--- src/instructions.rt:25:9
 slice-write-t-2 : tie.Need-slice-write-t-2 Inv-loop μ-loop
 slice-write-t-2 c =
     let l = c .before .before .before .loop in
@@ -69,15 +55,12 @@ slice-write-t-2 c =
     let n : l .hi - 1 < length (l .t) = omega arith in
     simp length-set n
 
--- src/instructions.rt:26:9
 add-lo : tie.Need-add-lo Inv-loop μ-loop
 add-lo c = search needs
 
--- src/instructions.rt:20:5
 loop-less : tie.Need-loop-less Inv-loop μ-loop
 loop-less c = search needs
 
--- src/instructions.rt:20:5
 loop-again : tie.Need-loop-again Inv-loop μ-loop
 loop-again c =
     let l = c .before .before .before .loop in
@@ -89,11 +72,9 @@ loop-again c =
     let z : suc (l .hi - 1) ≡ l .hi = omega arith in
     (search needs, search needs, simp length-set (i .2), turn-more (l .t) (l .lo) (l .hi - 1) k n ∙ ap (λ (x : ℕ). turned (l .lo) x (l .t)) z ∙ i .3)
 
--- src/instructions.rt:14:1
 same-length : tie.Need-same-length Inv-loop μ-loop
 same-length c = search needs
 
--- src/instructions.rt:14:1
 returns : tie.Need-returns Inv-loop μ-loop
 returns c =
     let l = c .before .loop in

@@ -1,23 +1,17 @@
-use Rattle.tables.specs.Runs.{countOf, total}
-use Rattle.join.proofs.Single.{count-field, word-is}
-use Rattle.join.proofs.Scan.{number-done, number-more, total-more}
-use Rattle.join.specs.Passes.{wordAt, numbered}
+-- `sections::renumber` meets its contract. The loop keeps what is done, then what is left to do, and the counts that are left. Assumes nothing.
+use mathlib.Core.List.{_++_}
+use mathlib.Core.Path.{_≡_, refl, sym, _∙_}
+use Prim.Native.Nat.{_≤_, _+_, _-_}
+use native.Mathlib.Omega.{arith}
 use lib.Seq.{slice}
 use lib.ListN.{length, take, drop, getD, length-set}
-use mathlib.Core.List.{_++_, map}
-use mathlib.Core.Path.{_≡_, refl, sym, ap, _∙_}
-use native.Mathlib.Omega.{arith}
-use Prim.Native.Nat.{ℕ, suc, _≤_, _<_, _+_, _-_}
 use borrow.Author.Needs.{needs}
+use Rattle.tables.specs.Runs.{total}
+use Rattle.join.proofs.Single.{count-field, word-is}
+use Rattle.join.proofs.Scan.{number-done, number-more, total-more}
+use Rattle.join.specs.Passes.{numbered}
 use Rattle.join.proofs.sections.renumber.Statement.{statement}
 use Rattle.join.proofs.sections.renumber.Tie as tie
-use Rattle.join.proofs.sections.renumber.Reads as reads
-use Rattle.join.proofs.sections.renumber.Lts as lts
-use Rattle.join.proofs.sections.success_without.Reads as success-without-reads
-use Rattle.words.proofs.section.SectionWord.count.Reads as count-reads
-use Rattle.words.proofs.section.SectionWord.line_start.Reads as line-start-reads
-use Rattle.words.proofs.section.SectionWord.pack.Reads as pack-reads
-use Rattle.words.proofs.section.SectionWord.success.Reads as success-reads
 
 abbrev Inv-loop : tie.InvT-loop
 Inv-loop t₀ n s2 first₀ i₀ t first i = (i ≤ n) × (length t ≡ length t₀) × (first + total (slice i n t) ≡ total (take n t₀)) × (take i t ++ (numbered (s2 .0) first (slice i n t) ++ drop n t) ≡ numbered (s2 .0) 0 (take n t₀) ++ drop n t₀)
@@ -25,87 +19,72 @@ Inv-loop t₀ n s2 first₀ i₀ t first i = (i ≤ n) × (length t ≡ length t
 abbrev μ-loop : tie.MeasureT-loop
 μ-loop t₀ n s2 first₀ i₀ t first i = n - i
 
--- src/sections.rt:63:5
 loop-holds : tie.Need-loop-holds Inv-loop μ-loop
 loop-holds c =
     (search needs, refl, omega arith, refl)
 
--- src/sections.rt:64:29
 mul-t9 : tie.Need-mul-t9 Inv-loop μ-loop
 mul-t9 c = search needs
 
--- src/sections.rt:64:29
 slice-read-t11 : tie.Need-slice-read-t11 Inv-loop μ-loop
 slice-read-t11 c = search needs
 
--- src/sections.rt:65:39
 success-requires : tie.Need-success-requires Inv-loop μ-loop
 success-requires c κs = search needs
 
--- src/sections.rt:65:13
 success-without-requires : tie.Need-success-without-requires Inv-loop μ-loop
 success-without-requires c κs = search needs
 
--- src/sections.rt:66:34
 line-start-requires : tie.Need-line-start-requires Inv-loop μ-loop
 line-start-requires c κs = search needs
 
--- src/sections.rt:66:66
 count-requires : tie.Need-count-requires Inv-loop μ-loop
 count-requires c κs = search needs
 
--- src/sections.rt:66:16
 pack-requires : tie.Need-pack-requires Inv-loop μ-loop
 pack-requires c κs = search needs
 
--- src/sections.rt:66:9
 mul-t : tie.Need-mul-t Inv-loop μ-loop
 mul-t c = search needs
 
--- src/sections.rt:66:9
 slice-write-t : tie.Need-slice-write-t Inv-loop μ-loop
 slice-write-t c = search needs
 
--- src/sections.rt:67:18
 count-requires-2 : tie.Need-count-requires-2 Inv-loop μ-loop
 count-requires-2 c κs = search needs
 
--- src/sections.rt:67:9
 add-first : tie.Need-add-first Inv-loop μ-loop
 add-first c =
+    let a = c .before .before .before .before .before .before .before .before .before .before .args in
     let l = c .before .before .before .before .before .before .before .before .loop in
     let i = l .inv in
     let p = c .before .before .before .before .before .before .before .before .before .before .pre in
     let h = c .before .before .before .before .before .before .before .loop-test .taken in
-    let n : c .before .before .before .before .before .before .before .before .before .before .args .n ≤ length (l .t) = omega arith in
-    omega (arith, total-more (c .before .before .before .before .before .before .before .before .before .before .args .s2 .0) (l .t) (l .i) (c .before .before .before .before .before .before .before .before .before .before .args .n) (l .first) h n 0, count-field _ _ (c .count2 .ensures))
+    let n : a .n ≤ length (l .t) = omega arith in
+    omega (arith, total-more (a .s2 .0) (l .t) (l .i) (a .n) (l .first) h n 0, count-field _ _ (c .count2 .ensures))
 
--- src/sections.rt:68:9
 add-i : tie.Need-add-i Inv-loop μ-loop
 add-i c = search needs
 
--- src/sections.rt:63:5
 loop-less : tie.Need-loop-less Inv-loop μ-loop
 loop-less c = search needs
 
--- src/sections.rt:63:5
 loop-again : tie.Need-loop-again Inv-loop μ-loop
 loop-again c =
+    let a = c .before .before .before .before .before .before .before .before .before .before .args in
     let l = c .before .before .before .before .before .before .before .before .loop in
     let i = l .inv in
     let p = c .before .before .before .before .before .before .before .before .before .before .pre in
     let h = c .before .before .before .before .before .before .before .loop-test .taken in
-    let n : c .before .before .before .before .before .before .before .before .before .before .args .n ≤ length (l .t) = omega arith in
+    let n : a .n ≤ length (l .t) = omega arith in
     let w = getD (l .t) (l .i) 0 in
     let k = count-field w _ (c .count2 .ensures) in
-    let m = number-more (c .before .before .before .before .before .before .before .before .before .before .args .s2 .0) (l .t) (l .i) (c .before .before .before .before .before .before .before .before .before .before .args .n) (l .first) h n _ (word-is (c .before .before .before .before .before .before .before .before .before .before .args .s2 .0) (l .first) w _ _ _ _ _ (c .before .before .before .line-start .ensures) (c .before .before .before .before .before .success .ensures) (c .before .before .before .before .success-without .ensures) (c .before .before .count .ensures) (c .before .pack .ensures)) in
-    (search needs, simp length-set (i .1), omega (arith, total-more (c .before .before .before .before .before .before .before .before .before .before .args .s2 .0) (l .t) (l .i) (c .before .before .before .before .before .before .before .before .before .before .args .n) (l .first) h n (c .before .pack .result .0)), rw k (m ∙ i .3))
+    let m = number-more (a .s2 .0) (l .t) (l .i) (a .n) (l .first) h n _ (word-is (a .s2 .0) (l .first) w _ _ _ _ _ (c .before .before .before .line-start .ensures) (c .before .before .before .before .before .success .ensures) (c .before .before .before .before .success-without .ensures) (c .before .before .count .ensures) (c .before .pack .ensures)) in
+    (search needs, simp length-set (i .1), omega (arith, total-more (a .s2 .0) (l .t) (l .i) (a .n) (l .first) h n (c .before .pack .result .0)), rw k (m ∙ i .3))
 
--- src/sections.rt:57:1
 same-length : tie.Need-same-length Inv-loop μ-loop
 same-length c = search needs
 
--- src/sections.rt:57:1
 returns : tie.Need-returns Inv-loop μ-loop
 returns c =
     let l = c .before .loop in
