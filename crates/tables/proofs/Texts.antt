@@ -1,12 +1,8 @@
 -- The text of a string register at each way out of the code's tests. Assumes nothing.
-<<<<<<< HEAD
 use mathlib.Core.Path.{_≡_, refl, sym, ap₂, subst}
-=======
-use mathlib.Core.Path.{_≡_, refl, sym, _∙_}
->>>>>>> machine
 use mathlib.Core.Bool.{Bool, true, false, cond, _&&_}
 use mathlib.Core.List.{List, [], _∷_}
-use mathlib.Core.Option.{none, some}
+use mathlib.Core.Option.{Option, none, some}
 use Prim.Native.Nat.{ℕ, zero, suc, _+_, _-_, _<_, _≤_}
 use native.Mathlib.Omega.{arith}
 use native.Mathlib.Nat.{add-sub-cancel-left}

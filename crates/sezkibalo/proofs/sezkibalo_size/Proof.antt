@@ -8,40 +8,28 @@ use Rattle.sezkibalo.proofs.Laws.{size-short, size-answers}
 use borrow.Author.Needs.{needs}
 use Rattle.sezkibalo.proofs.sezkibalo_size.Statement.{statement}
 use Rattle.sezkibalo.proofs.sezkibalo_size.Tie as tie
-use Rattle.sezkibalo.proofs.sezkibalo_size.Reads as reads
-use Rattle.sezkibalo.proofs.sezkibalo_size.Lts as lts
-use Rattle.sezkibalo.proofs.counts.put_sizes.Reads as put-sizes-reads
-use Rattle.tree.proofs.size.Reads as size-reads
 
--- src/lib.rt:25:9
 returns : tie.Need-returns
 returns c = size-short _ _ (c .if1 .taken)
 
--- src/lib.rt:27:9
 size-requires : tie.Need-size-requires
 size-requires c κs = search needs
 
--- src/lib.rt:29:29
 enum-known-a : tie.Need-enum-known-a
 enum-known-a c = search needs
 
--- src/lib.rt:30:27
 enum-known-a-2 : tie.Need-enum-known-a-2
 enum-known-a-2 c = search needs
 
--- src/lib.rt:31:13
 put-sizes-requires : tie.Need-put-sizes-requires
 put-sizes-requires c κs = search needs
 
--- src/lib.rt:20:1
 returns-2 : tie.Need-returns-2
 returns-2 c = size-answers _ _ _ (omega arith) (ap sizeRes (sym (c .before .a .given .1)) ∙ c .before .before .before .size .ensures)
 
--- src/lib.rt:20:1
 same-length : tie.Need-same-length
 same-length c = search needs
 
--- src/lib.rt:20:1
 returns-3 : tie.Need-returns-3
 returns-3 c =
     ap (λ (k : List ℕ). (0, k)) (c .before .before .put-sizes .ensures)

@@ -5,32 +5,22 @@ use Rattle.sezkibalo.proofs.Laws.{text-bad, text-placed}
 use borrow.Author.Needs.{needs}
 use Rattle.sezkibalo.proofs.sezkibalo_text.Statement.{statement}
 use Rattle.sezkibalo.proofs.sezkibalo_text.Tie as tie
-use Rattle.sezkibalo.proofs.sezkibalo_text.Reads as reads
-use Rattle.sezkibalo.proofs.sezkibalo_text.Lts as lts
-use Rattle.sezkibalo.proofs.spot.Reads as spot-reads
-use Rattle.tables.proofs.text.text_place.Reads as text-place-reads
 
--- src/lib.rt:91:9
 spot-requires : tie.Need-spot-requires
 spot-requires c κs = search needs
 
--- src/lib.rt:91:9
 returns : tie.Need-returns
 returns c = c .spot .ensures ∙ text-bad _ _ _ (c .before .if1 .taken)
 
--- src/lib.rt:93:46
 cast-t7 : tie.Need-cast-t7
 cast-t7 c = search needs
 
--- src/lib.rt:93:9
 text-place-requires : tie.Need-text-place-requires
 text-place-requires c κs = search needs
 
--- src/lib.rt:94:5
 spot-requires-2 : tie.Need-spot-requires-2
 spot-requires-2 c κs = place-short _ _ _ _ _ (c .text-place .ensures)
 
--- src/lib.rt:86:1
 returns-2 : tie.Need-returns-2
 returns-2 c = c .spot2 .ensures ∙ text-placed _ _ _ _ _ (c .before .before .if1 .left) (c .before .text-place .ensures)
 

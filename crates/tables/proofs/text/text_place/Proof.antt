@@ -3,61 +3,43 @@ use Rattle.tables.proofs.Texts.{no-register, no-zeros, past-pool, in-po
 use borrow.Author.Needs.{needs}
 use Rattle.tables.proofs.text.text_place.Statement.{statement}
 use Rattle.tables.proofs.text.text_place.Tie as tie
-use Rattle.tables.proofs.text.text_place.Reads as reads
-use Rattle.tables.proofs.text.text_place.Lts as lts
-use Rattle.words.proofs.text.StringWord.length.Reads as length-reads
-use Rattle.words.proofs.text.StringWord.spare.Reads as spare-reads
-use Rattle.words.proofs.text.StringWord.start.Reads as start-reads
 
--- src/text.rt:23:14
 cast-at : tie.Need-cast-at
 cast-at c = search needs
 
--- src/text.rt:25:9
 returns : tie.Need-returns
 returns c = no-register _ _ _ (c .if1 .taken)
 
--- src/text.rt:27:24
 mul-if2 : tie.Need-mul-if2
 mul-if2 c = search needs
 
--- src/text.rt:27:24
 shared-slice-read-if2 : tie.Need-shared-slice-read-if2
 shared-slice-read-if2 c = search needs
 
--- src/text.rt:28:8
 spare-requires : tie.Need-spare-requires
 spare-requires c κs = search needs
 
--- src/text.rt:29:9
 returns-2 : tie.Need-returns-2
 returns-2 c = no-zeros _ _ _ (c .before .before .before .if1 .left) _ (c .before .spare .ensures) (c .if2 .taken)
 
--- src/text.rt:31:17
 start-requires : tie.Need-start-requires
 start-requires c κs = search needs
 
--- src/text.rt:31:17
 cast-start : tie.Need-cast-start
 cast-start c = search needs
 
--- src/text.rt:32:18
 length-requires : tie.Need-length-requires
 length-requires c κs = search needs
 
--- src/text.rt:32:18
 cast-length : tie.Need-cast-length
 cast-length c = search needs
 
--- src/text.rt:33:8
 add-if3 : tie.Need-add-if3
 add-if3 c = search needs
 
--- src/text.rt:34:9
 returns-3 : tie.Need-returns-3
 returns-3 c = past-pool _ _ _ (c .before .before .before .before .before .before .if1 .left) _ (c .before .before .before .before .spare .ensures) (c .before .before .before .if2 .left) _ _ (c .before .before .start .ensures) (c .before .length .ensures) (c .if3 .taken)
 
--- src/text.rt:16:1
 returns-4 : tie.Need-returns-4
 returns-4 c = in-pool _ _ _ (c .before .before .before .before .before .before .if1 .left) _ (c .before .before .before .before .spare .ensures) (c .before .before .before .if2 .left) _ _ (c .before .before .start .ensures) (c .before .length .ensures) (c .if3 .left)
 
