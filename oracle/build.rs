@@ -163,6 +163,15 @@ fn kinds_table(cases: &[(String, Vec<String>)]) -> String {
     out + "];\n"
 }
 
+/// The opcodes' numbers under their names.
+fn numbers_table(cases: &[(String, Vec<String>)]) -> String {
+    let mut out = String::new();
+    for (op, (name, _)) in cases.iter().enumerate() {
+        writeln!(out, "pub const {name}: u8 = {op};").unwrap();
+    }
+    out
+}
+
 /// For the glue: an instruction from its opcode and fields, and back.
 fn conversions(cases: &[(String, Vec<String>)]) -> String {
     let mut from = String::new();
@@ -237,6 +246,7 @@ fn main() {
         &format!("{optimize}\n\n#[path = {glue:?}]\npub mod glue;\n"),
     );
     write(&out, "opcodes.rs", &kinds_table(&cases));
+    write(&out, "numbers.rs", &numbers_table(&cases));
     write(&out, "conversions.rs", &conversions(&cases));
     let modules = ["parser.rs", "ir/mod.rs"].map(|file| {
         let name = file.split(['.', '/']).next().unwrap();

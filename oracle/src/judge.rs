@@ -1,7 +1,7 @@
 //! The operations of document 01: its refusals are decided here, the machine comes from yogi.
 
 use crate::limits::*;
-use crate::machine::{pack, sound, span_fits, unpack, Counts, Kind, Machine, Next, Sect, Span, Tables, OPCODES};
+use crate::machine::{pack, sound, span_fits, unpack, Counts, Machine, Next, Sect, Span, Tables};
 use crate::tree::{decode, Size, Tree};
 use crate::yogi::ir::glue;
 use std::cell::Cell;
@@ -182,7 +182,7 @@ pub fn jump_targets(machine: &Machine) -> impl Iterator<Item = usize> + '_ {
         .sections
         .iter()
         .flat_map(|section| &section.code)
-        .filter(|ins| OPCODES[usize::from(ins.op)].1[0] == Kind::Section)
+        .filter(|ins| ins.is_jump())
         .map(|ins| usize::from(ins.fields[0]))
 }
 

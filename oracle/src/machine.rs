@@ -14,6 +14,12 @@ pub enum Kind {
 // the 53 opcodes with the kinds of their fields, as yogi declares them
 include!(concat!(env!("OUT_DIR"), "/yogi/opcodes.rs"));
 
+/// Their numbers, in the order of the declaration.
+#[allow(non_upper_case_globals, dead_code)]
+pub mod op {
+    include!(concat!(env!("OUT_DIR"), "/yogi/numbers.rs"));
+}
+
 #[derive(Debug, Clone, Copy, PartialEq, Eq)]
 pub struct Ins {
     pub op: u8,
@@ -106,6 +112,19 @@ impl Counts {
 // ---- words
 
 impl Ins {
+    pub fn is_jump(self) -> bool {
+        OPCODES[usize::from(self.op)].1[0] == Kind::Section
+    }
+
+    /// The instruction as it is compared: a jump's target is left aside.
+    pub fn shown(self) -> Self {
+        let [a, b, c] = self.fields;
+        Ins {
+            op: self.op,
+            fields: [if self.is_jump() { 0 } else { a }, b, c],
+        }
+    }
+
     pub fn word(self) -> u64 {
         let [a, b, c] = self.fields.map(u64::from);
         u64::from(self.op) << 58 | a << 42 | b << 26 | c << 10
@@ -220,7 +239,8 @@ fn field_fits(counts: &Counts, kind: Kind, field: u16) -> bool {
     }
 }
 
-fn ins_fits(counts: &Counts, word: u64) -> bool {
+/// Is this an instruction whose registers and target lie below the counts?
+pub fn ins_fits(counts: &Counts, word: u64) -> bool {
     let ins = Ins::of_word(word);
     let Some((_, kinds)) = OPCODES.get(usize::from(ins.op)) else {
         return false;

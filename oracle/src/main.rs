@@ -1,24 +1,8 @@
 //! The judge: yogi's own code behind the tree form and the refusals of document 01.
 //! README.md says what each command does.
 
-mod bits;
-mod figures;
-mod finlist;
-mod generate;
-mod judge;
-mod limits;
-mod line;
-mod machine;
-mod record;
-mod rng;
-mod selftest;
-#[cfg(test)]
-mod tests;
-mod theorems;
-mod tree;
-mod yogi;
-
-use judge::{Answer, Op, Options, Stage};
+use oracle::judge::{Answer, Op, Options, Stage};
+use oracle::{bits, finlist, generate, line, machine, record, selftest, theorems, tree, walks, judge};
 use std::io::{Read, Write};
 use std::process::ExitCode;
 
@@ -28,7 +12,8 @@ const USAGE: &str = "usage:
   oracle finlist < FILE
   oracle generate trees|damaged|machines SEED COUNT [MAXBYTES]
   oracle self-test SEED COUNT
-  oracle theorems trees|damaged|machines|finlist|texts|limits SEED COUNT DIR
+  oracle walks SEED COUNT
+  oracle theorems trees|damaged|machines|finlist|texts|limits|instr|walks SEED COUNT DIR
   oracle record trees|machines SEED";
 
 fn machine_line(machine: &machine::Machine) -> String {
@@ -92,8 +77,9 @@ fn generate_command(kind: &str, seed: &str, count: &str, most_bytes: usize) -> O
     Some(lines.join("\n"))
 }
 
-fn selftest_command(seed: &str, count: &str) -> Option<String> {
-    let (text, held) = selftest::run(seed.parse().ok()?, count.parse().ok()?);
+/// A report; if something is wrong, as an error.
+fn report_command(run: fn(u64, usize) -> (String, bool), seed: &str, count: &str) -> Option<String> {
+    let (text, held) = run(seed.parse().ok()?, count.parse().ok()?);
     if held {
         return Some(text);
     }
@@ -121,7 +107,8 @@ fn run(words: &[&str]) -> Option<String> {
         ["record", "trees", seed] => Some(record::of_trees(seed.parse().ok()?)),
         ["record", "machines", seed] => Some(record::of_machines(seed.parse().ok()?)),
         ["theorems", kind, seed, count, folder] => theorems_command(kind, seed, count, folder),
-        ["self-test", seed, count] => selftest_command(seed, count),
+        ["self-test", seed, count] => report_command(selftest::run, seed, count),
+        ["walks", seed, count] => report_command(walks::run, seed, count),
         _ => None,
     }
 }

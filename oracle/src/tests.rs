@@ -3,10 +3,11 @@
 use crate::bits::unhex;
 use crate::finlist::finlist;
 use crate::generate::broken;
-use crate::judge::{change, jump_targets, machine_of, pass, Answer, Op, Options, Stage};
+use crate::judge::{ask_yogi, change, jump_targets, machine_of, pass, Answer, Op, Options, Stage};
 use crate::line;
-use crate::machine::{pack, unpack, Machine, Next};
+use crate::machine::{op, pack, unpack, Ins, Kind, Machine, Next};
 use crate::tree::decode;
+use crate::yogi::ir::glue::instrs;
 
 fn machine(stage: Stage, hex: &str) -> Machine {
     let tree = decode(&unhex(hex).unwrap()).expect("an accepted tree");
@@ -147,4 +148,28 @@ fn each_rule_is_broken() {
             .count();
         assert!(refused >= 30, "breakage {how}: only {refused} of 60 are refused");
     }
+}
+
+/// What yogi says of single instructions, as the theorems have it.
+#[test]
+fn single_instructions() {
+    let ins = |op, fields| Ins { op, fields };
+    let (num, val) = (|n| (Kind::NumReg, n), |n| (Kind::ValReg, n));
+    crate::judge::hush_yogi();
+    assert_eq!(instrs::reads(ins(op::JumpSectionIf, [3, 5, 0])), [num(5)]);
+    assert_eq!(instrs::reads(ins(op::Le, [3, 5, 7])), [val(3), val(5)]);
+    assert_eq!(instrs::modifies(ins(op::Le, [3, 5, 7])), Some(num(7)));
+    assert_eq!(instrs::get_section(ins(op::JumpIfError, [3, 0, 0])), Some(3));
+    assert!(!instrs::can_runtime_err(ins(op::IncVal, [3, 0, 0])));
+    let le = ins(op::Le, [3, 5, 7]);
+    assert_eq!(instrs::remove_reg(le, val(4)), ins(op::Le, [3, 4, 7]));
+    assert_eq!(ask_yogi(|| instrs::remove_reg(le, val(5))), Answer::Panic);
+    let jump = ins(op::JumpIfError, [3, 0, 0]);
+    assert_eq!(instrs::remove_section(jump, 2), ins(op::JumpIfError, [2, 0, 0]));
+    assert_eq!(instrs::checked_remove_section(jump, 3), (true, jump));
+    let replaced = instrs::dup_replace_with(ins(op::Eq, [4, 4, 1]), 2, 0);
+    assert_eq!(
+        (replaced.code, replaced.numbers),
+        (vec![ins(op::CopyNum, [2, 1, 0])], vec![1_000])
+    );
 }

@@ -13,7 +13,7 @@ use Rattle.rules.specs.Tables.{successOf, kindOf, targetOf}
 use Rattle.rules.specs.Clean.{renNext}
 use Rattle.laws.specs.Words.{run-back, run-small}
 use Rattle.words.specs.Runs as Runs
-use Rattle.words.proofs.Sections.{kindOf-lt}
+use Rattle.laws.specs.Success.{kind-lt}
 use Rattle.tables.specs.Runs.{fixedWord, countOf}
 use Rattle.clean.specs.Pass.{firstOf, withFirst, withTarget}
 
@@ -58,7 +58,7 @@ module _ (f : ℕ → ℕ) (fb : (t : ℕ) → f t < mark) where
   target-run w =
       let s = run-small w in
       let t : targetOf (successOf (wordRun w)) < 65536 = rw (target-of (wordRun w)) (s .1 .1 .0) in
-      run-back (turned w) (s .0, (kindOf-lt _ _ refl, (small-by (successOf (wordRun w)) t, (s .1 .1 .1 .0, (s .1 .1 .1 .1 .0, tt)))))
+      run-back (turned w) (s .0, (kind-lt _, (small-by (successOf (wordRun w)) t, (s .1 .1 .1 .0, (s .1 .1 .1 .1 .0, tt)))))
 
   target-success : (w : ℕ) → successOf (wordRun (withTarget f w)) ≡ renNext f (successOf (wordRun w))
   target-success w = ap successOf (target-run w) ∙ again _ _ _ (successOf (wordRun w))

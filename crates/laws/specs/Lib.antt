@@ -1,4 +1,6 @@
 pub mod Pack
 pub mod Words
+pub mod Success
+pub mod Small
 pub mod Match
 pub mod Table

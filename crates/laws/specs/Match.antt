@@ -1,6 +1,6 @@
 -- A `match` on a number with keys and ranges, against a function of the number: the values at all the numbers of an arm are computed and compared
 -- as one list. Assumes nothing.
-use mathlib.Core.Path.{_≡_, refl, subst, sym}
+use mathlib.Core.Path.{_≡_}
 use mathlib.Core.Logic.{⊎-elim}
 use mathlib.Core.Bool.{Bool, true, false, _||_}
 use mathlib.Core.List.{List, [], _∷_, map}
@@ -60,10 +60,14 @@ tail : {A : Type 0} (b : Bool) (x y : A) (l m : List A) → unless b x l ≡ unl
 tail true x y l m h = h
 tail false x y l m h = cc
 
-pub in-range : {A : Type 0} (f : ℕ → A) (x : A) (kss : List (List ℕ)) (lo n : ℕ) → others (λ k. x) kss lo n ≡ others f kss lo n → (k : ℕ) → Rest (Unit {0}) kss k → lo ≤ k → k < lo + n → x ≡ f k
-in-range f x kss lo zero h k r a b = absurd (omega arith)
-in-range f x kss lo (suc n) h k r a b =
+-- two functions whose values at these numbers are the same list
+pub agree : {A : Type 0} (f g : ℕ → A) (kss : List (List ℕ)) (lo n : ℕ) → others g kss lo n ≡ others f kss lo n → (k : ℕ) → Rest (Unit {0}) kss k → lo ≤ k → k < lo + n → g k ≡ f k
+agree f g kss lo zero h k r a b = absurd (omega arith)
+agree f g kss lo (suc n) h k r a b =
     ⊎-elim
-    (λ e. let q : (T (has kss lo) → ⊥) → x ≡ f lo = head (has kss lo) x (f lo) _ _ h in rw (← e) (q (rw e (none Unit kss k r))))
-    (λ l. in-range f x kss (suc lo) n (tail (has kss lo) x (f lo) _ _ h) k r l (omega arith))
+    (λ e. let q : (T (has kss lo) → ⊥) → g lo ≡ f lo = head (has kss lo) (g lo) (f lo) _ _ h in rw (← e) (q (rw e (none Unit kss k r))))
+    (λ l. agree f g kss (suc lo) n (tail (has kss lo) (g lo) (f lo) _ _ h) k r l (omega arith))
     (eq-or-lt-of-le a)
+
+pub in-range : {A : Type 0} (f : ℕ → A) (x : A) (kss : List (List ℕ)) (lo n : ℕ) → others (λ k. x) kss lo n ≡ others f kss lo n → (k : ℕ) → Rest (Unit {0}) kss k → lo ≤ k → k < lo + n → x ≡ f k
+in-range f x kss lo n = agree f (λ k. x) kss lo n

@@ -1,15 +1,17 @@
 -- The opcode table: a test that is computed over all its rows holds of each row. Assumes nothing.
-use mathlib.Core.Path.{_≡_, refl, sym, _∙_}
-use mathlib.Core.Bool.{Bool, true, false, _&&_}
+use mathlib.Core.Path.{_≡_, refl}
+use mathlib.Core.Bool.{Bool, true, false}
 use mathlib.Core.List.{List, [], _∷_, map}
 use mathlib.Core.Option.{Option, none, some}
-use Prim.Native.Nat.{ℕ, zero, suc, _≤_, _<_}
+use Prim.Native.Nat.{ℕ, zero, suc, _≤_, _<_, zero-le}
 use native.Mathlib.Omega.{arith}
-use lib.Dec.{eqb, ltb}
+use lib.Dec.{eqb, ltb, leb}
 use lib.ListN.{length, getElem?}
 use borrow.Author.Tests.{ne-eqb, ltb-true}
+use Rattle.rules.specs.Opcode.{JumpIfError}
 use Rattle.rules.specs.Instr.{Instruction, Kind, unused, num, str, val, place, Row, table, kinds, register, reads, modifies, canRuntimeErr}
 use Rattle.rules.specs.Tables.{all}
+use Rattle.laws.specs.Match.{agree}
 use Rattle.rules.specs.Replace.{Rule, stays, goes, turns, number, result, blank, rules, lookup}
 
 -- past the end there is nothing
@@ -59,6 +61,26 @@ module _ (i : Instruction) (r : Row) (e : some r ≡ getElem? table (i .op)) whe
   pub modifies-row : modifies i ≡ elim (r .modifies) [ none ↦ none | some f ↦ some (register r i f) ]
   unfolding modifies
   modifies-row = rw (← e)
+
+-- an opcode is below 53
+pub opcode-lt : (o : ℕ) (k : Kind × Kind × Kind) → kinds o ≡ some k → o < 53
+unfolding kinds table
+opcode-lt o k e =
+    let no : 53 ≤ o → ⊥ = λ h. let n : none ≡ getElem? table o = past-end table o h in let z : _≡_ {A = ℕ} 0 1 = cc (rw (← n) at e) in omega arith in
+    omega arith
+
+-- the jumps are the opcodes whose first field is a section
+abbrev pub isPlace : Option (Kind × Kind × Kind) → Bool
+isPlace none = false
+isPlace (some (unused, b, c)) = false
+isPlace (some (num, b, c)) = false
+isPlace (some (str, b, c)) = false
+isPlace (some (val, b, c)) = false
+isPlace (some (place, b, c)) = true
+
+pub place-jumps : (o : ℕ) → o < 53 → isPlace (kinds o) ≡ leb o JumpIfError
+unfolding kinds table
+place-jumps o h = agree (λ o. leb o JumpIfError) (λ o. isPlace (kinds o)) [] 0 53 refl o tt zero-le h
 
 -- is it the kind of a register?
 abbrev pub isReg : Kind → Bool

@@ -6,7 +6,7 @@ use Prim.Native.Nat.{ℕ, _^_, _<_}
 use lib.ListN.{getD}
 use Rattle.rules.specs.Constants.{instrLayout, sectionLayout, stringLayout}
 use Rattle.rules.specs.Instr.{Instruction}
-use Rattle.rules.specs.Word.{pack, unpack, insWord, wordIns, insSpare, Run, runWord, wordRun, runSpare, Span, spanWord, wordSpan, spanSpare}
+use Rattle.rules.specs.Word.{unpack, insWord, wordIns, insSpare, Run, runWord, wordRun, runSpare, Span, spanWord, wordSpan, spanSpare}
 use Rattle.laws.specs.Pack.{Small, pack-lt, unpack-pack, fields, fields-small, small-take, pack-unpack}
 
 -- ---- an instruction: opcode below 64, fields below 65,536

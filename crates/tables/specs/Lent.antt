@@ -4,6 +4,8 @@ use Prim.Native.Nat.{ℕ}
 use lib.IntN.{ℤ}
 use Rattle.rules.specs.Bits.{Res, refused, ok}
 use Rattle.rules.specs.Tables.{Tables, Counts}
+use Rattle.rules.specs.Word.{Span}
+use Rattle.tables.specs.declared.text.Place.{Place}
 use Rattle.tables.specs.declared.counts.Counts.{Counts as Lent}
 use Rattle.tables.specs.declared.answer.Answer.{Answer}
 use Rattle.tables.specs.declared.answer.Answer.the-variants.{Done, Refused}
@@ -26,3 +28,7 @@ tables ss is ns ts p xs = record { sections = ss; instrs = is; numbers = ns; str
 abbrev pub answerTold : Answer → Res Counts
 answerTold (Done c) = ok (countsTold c)
 answerTold (Refused n) = refused n
+
+-- a text's place
+abbrev pub placeTold : Place → Span
+placeTold p = record { start = p .start; size = p .length }

@@ -13,8 +13,8 @@ use Rattle.rules.specs.Bits.{Res, refused, ok, isOne}
 use Rattle.rules.specs.Tree.{Tree}
 use Rattle.rules.specs.Parse.{parse}
 use Rattle.rules.specs.Instr.{Instruction, Kind, kinds}
-use Rattle.rules.specs.Constants.{stringLayout}
-use Rattle.rules.specs.Word.{unpack, insWord, wordIns, Run, runWord, wordRun, Span, spanWord, wordSpan}
+use Rattle.laws.specs.Words as Words
+use Rattle.rules.specs.Word.{insWord, wordIns, Run, runWord, wordRun, Span, spanWord, wordSpan}
 use Rattle.rules.specs.Machine.{SectionOrLine, SectionCode, Machine}
 use Rattle.rules.specs.Tables.{Tables, Counts, fits, readSections, decode, successOf, flag, kindOf, targetOf, runOf, runWords, allCode, encode, countsOf}
 use Rattle.rules.specs.Operations.{sizeOf, estimate, holds, put, write, build}
@@ -78,22 +78,11 @@ sections-back u c i k (s ∷ ss) f h e =
         parts p q r = cc
 
 spans-back : (P : ℕ) → P ≤ 65535 → (ts : List Span) → All (SpanFit P) ts → map wordSpan (map spanWord ts) ≡ ts
-unfolding wordSpan spanWord
 spans-back P p [] h = refl
 spans-back P p (t ∷ ts) h = ap₂ (λ (x : Span) (y : List Span). x ∷ y) (one t (h .0)) (spans-back P p ts (h .1))
   where
-    span : ℕ → ℕ → Span
-    span a b = record { start = a; size = b }
-
-    both-are : {a a′ b b′ : ℕ} → a ≡ a′ → b ≡ b′ → span a b ≡ span a′ b′
-    both-are e f = cc
-
     one : (t : Span) → SpanFit P t → wordSpan (spanWord t) ≡ t
-    one t f =
-        let w = spanWord t in
-        let a : unpack stringLayout 0 w ≡ t .start = omega (arith, f .inside, f .short) in
-        let b : unpack stringLayout 1 w ≡ t .size = omega (arith, f .short) in
-        both-are a b
+    one t f = Words.span-back t (omega (arith, f .inside), (f .short, tt))
 
 -- ---- the machine
 

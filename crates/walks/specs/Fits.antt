@@ -11,8 +11,9 @@ use lib.Seq.{take-all}
 use borrow.Author.Tests.{ltb-true, ltb-false, leb-true, leb-false, eqb-true, eqb-false, lt-ltb, le-ltb, eq-eqb, ne-eqb, le-leb}
 use Rattle.rules.specs.Bits.{isOne}
 use Rattle.rules.specs.Instr.{Row, Instruction, isJump, Kind, unused, num, str, val, place, table, kinds}
+use Rattle.laws.specs.Words as Words
 use Rattle.rules.specs.Word.{unpack, insWord, wordIns, insSpare, Run, runWord, wordRun, runSpare, Span, spanWord, wordSpan, spanSpare}
-use Rattle.rules.specs.Constants.{instrLayout, sectionLayout, stringLayout, mark}
+use Rattle.rules.specs.Constants.{stringLayout, mark}
 use Rattle.rules.specs.Machine.{SectionOrLine, unfixed, section, line, SectionCode, isFixed, Machine}
 use Rattle.rules.specs.Tables.{Tables, Counts, all, fieldFits, insFits, successOf, successFits, startFits, runsFit, spanFits, nameFits, countFits, countsFit, wordsFit, fits, flag, kindOf, targetOf, runOf, runWords, allCode, encode, countsOf}
 use Rattle.rules.specs.Demand.{All, FieldBelow, FieldsBelow, RegistersBelow}
@@ -89,20 +90,7 @@ op-small o k e = let r = row-of o k e in at-lt table o (r .0) (r .1)
 
 -- An instruction reads back.
 pub ins-back : (i : Instruction) → i .op < 64 → i .fst < 65536 → i .snd < 65536 → i .thd < 65536 → wordIns (insWord i) ≡ i
-unfolding wordIns insWord
-ins-back i o a b c =
-    let w = insWord i in
-    let eo : unpack instrLayout 0 w ≡ i .op = omega arith in
-    let ea : unpack instrLayout 1 w ≡ i .fst = omega arith in
-    let eb : unpack instrLayout 2 w ≡ i .snd = omega arith in
-    let ec : unpack instrLayout 3 w ≡ i .thd = omega arith in
-    four eo ea eb ec
-  where
-    mkIns : ℕ → ℕ → ℕ → ℕ → Instruction
-    mkIns o a b c = record { op = o; fst = a; snd = b; thd = c }
-
-    four : {o o′ a a′ b b′ c c′ : ℕ} → o ≡ o′ → a ≡ a′ → b ≡ b′ → c ≡ c′ → mkIns o a b c ≡ mkIns o′ a′ b′ c′
-    four p q r s = cc
+ins-back i o a b c = Words.ins-back i (o, (a, (b, (c, tt))))
 
 low-zero : (i : Instruction) → insSpare (insWord i) ≡ 0
 unfolding insWord insSpare
@@ -129,21 +117,7 @@ ins-fits u c i h = go (kinds (i .op)) refl h
 -- ---- sections
 
 run-back : (r : Run) → r .lineStart ≤ 1 → r .kind ≤ 1 → r .target ≤ 65535 → r .first ≤ 65535 → r .count ≤ 65535 → wordRun (runWord r) ≡ r
-unfolding wordRun runWord
-run-back r a b c d e =
-    let w = runWord r in
-    let e₁ : unpack sectionLayout 0 w ≡ r .lineStart = omega arith in
-    let e₂ : unpack sectionLayout 1 w ≡ r .kind = omega arith in
-    let e₃ : unpack sectionLayout 2 w ≡ r .target = omega arith in
-    let e₄ : unpack sectionLayout 3 w ≡ r .first = omega arith in
-    let e₅ : unpack sectionLayout 4 w ≡ r .count = omega arith in
-    five e₁ e₂ e₃ e₄ e₅
-  where
-    mkRun : ℕ → ℕ → ℕ → ℕ → ℕ → Run
-    mkRun a b c d e = record { lineStart = a; kind = b; target = c; first = d; count = e }
-
-    five : {a a′ b b′ c c′ d d′ e e′ : ℕ} → a ≡ a′ → b ≡ b′ → c ≡ c′ → d ≡ d′ → e ≡ e′ → mkRun a b c d e ≡ mkRun a′ b′ c′ d′ e′
-    five p q r s t = cc
+run-back r a b c d e = Words.run-back r (omega arith, (omega arith, (omega arith, (omega arith, (omega arith, tt)))))
 
 run-zero : (r : Run) → runSpare (runWord r) ≡ 0
 unfolding runWord runSpare

@@ -1,11 +1,10 @@
 -- What the proofs of this crate share, over plain variables. Assumes nothing.
-use mathlib.Core.Path.{_≡_, refl, sym, ap, _∙_}
+use mathlib.Core.Path.{_≡_, refl, sym, _∙_}
 use mathlib.Core.Bool.{Bool, true, false, cond}
-use mathlib.Core.Option.{Option, none, some}
+use mathlib.Core.Option.{none, some}
 use Prim.Native.Nat.{ℕ, zero, suc, pred, _-_, _<_}
 use native.Mathlib.Omega.{arith}
-use lib.Dec.{eqb, ltb}
-use borrow.Author.Tests.{eq-eqb, ne-eqb, lt-ltb, le-ltb}
+use borrow.Author.Tests.{eq-eqb, ne-eqb}
 use Rattle.rules.specs.Instr.{Instruction, ins₃, isJump, getSection, aimed, Kind, kindNumber, fall, fallOf, removeSection, checkedRemoveSection}
 use Rattle.rules.specs.Word.{insWord, wordIns}
 use Rattle.laws.specs.Words.{ins-small}

@@ -1,6 +1,6 @@
 -- An instruction against its opcode's row: what is read, what is modified, and the fields after a register's removal. Assumes nothing.
 use mathlib.Core.Path.{_≡_, refl, sym, ap, subst, _∙_}
-use mathlib.Core.Bool.{Bool, true, false}
+use mathlib.Core.Bool.{true}
 use mathlib.Core.List.{List, [], _∷_, map}
 use mathlib.Core.Option.{Option, none, some}
 use Prim.Native.Nat.{ℕ, zero, suc}
@@ -9,7 +9,6 @@ use lib.ListN.{getElem?}
 use types.Run.{OneOf, miss}
 use denote.Enum.Declared.{tagOf}
 use Rattle.rules.specs.Instr.{Instruction, ins₃, Kind, unused, num, str, val, place, Row, table, kinds, register, reads, modifies, fallOf, removeReg}
-use Rattle.rules.specs.Word.{insWord}
 use Rattle.laws.specs.Match.{at-keys}
 use Rattle.laws.specs.Table.{Regs, isReg, kindAt, kinds-row, reads-row, modifies-row, read-regs, modified-reg}
 use Rattle.words.specs.Told.{kindTold, flowReads, flowModifies, fieldsTold, regKind}

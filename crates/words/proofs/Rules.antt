@@ -15,7 +15,6 @@ use Rattle.words.specs.Told.{ruleTold, replacedOf, replacedBy}
 use Rattle.words.specs.declared.instr.Instruction as I
 use Rattle.words.specs.declared.instr.DupRule.{DupRule}
 use Rattle.words.specs.declared.instr.DupRule.the-variants.{Turns as TurnsTo}
-use Rattle.words.specs.declared.instr.Replaced.{Replaced}
 use Rattle.words.specs.declared.instr.Replaced.the-variants.{Stays, Turns}
 
 -- two registers

@@ -1,14 +1,14 @@
 -- A section's word, over plain variables. Assumes nothing.
 use mathlib.Core.Path.{_≡_, ap}
-use mathlib.Core.Bool.{Bool, true, false}
-use Prim.Native.Nat.{ℕ, _<_}
+use Prim.Native.Nat.{ℕ, _+_, _*_, _%_, _^_, _<_}
 use native.Mathlib.Omega.{arith}
+use lib.Pow.{shl-exact}
 use borrow.Author.Tests.{eq-eqb, ne-eqb}
 use Rattle.rules.specs.Bits.{isOne}
 use Rattle.rules.specs.Constants.{mark}
 use Rattle.rules.specs.Word.{Run, runWord, wordRun}
-use Rattle.rules.specs.Machine.{SectionOrLine, unfixed, section, line}
-use Rattle.rules.specs.Tables.{flag, kindOf, targetOf, successOf}
+use Rattle.rules.specs.Machine.{unfixed, section, line}
+use Rattle.rules.specs.Tables.{successOf}
 use Rattle.laws.specs.Words.{run-small}
 use Rattle.words.specs.Runs.{run}
 
@@ -19,16 +19,13 @@ start-lt w n e = rw e (run-small w .0)
 pub kind-lt : (w n : ℕ) → n ≡ wordRun w .kind → n < 2
 kind-lt w n e = rw e (run-small w .1 .0)
 
-pub flag-lt : (b : Bool) (n : ℕ) → n ≡ flag b → n < 2
-unfolding flag
-flag-lt true n e = omega arith
-flag-lt false n e = omega arith
+-- the fields fit beside each other
+module _ (l k t f c : ℕ) (hl : l < 2 ^ 1) (hk : k < 2 ^ 1) (ht : t < 2 ^ 16) (hf : f < 2 ^ 16) (hc : c < 2 ^ 16) where
+  pub four-fit : l * 2 ^ 63 % 2 ^ 64 + k * 2 ^ 62 % 2 ^ 64 + t * 2 ^ 46 % 2 ^ 64 + f * 2 ^ 30 % 2 ^ 64 < 2 ^ 64
+  four-fit = rw (shl-exact 1 63 64 hl (omega arith), shl-exact 1 62 64 hk (omega arith), shl-exact 16 46 64 ht (omega arith), shl-exact 16 30 64 hf (omega arith)) (omega arith)
 
-pub kindOf-lt : (s : SectionOrLine) (n : ℕ) → n ≡ kindOf s → n < 2
-unfolding kindOf
-kindOf-lt unfixed n e = omega arith
-kindOf-lt (section t) n e = omega arith
-kindOf-lt (line r) n e = omega arith
+  pub five-fit : l * 2 ^ 63 % 2 ^ 64 + k * 2 ^ 62 % 2 ^ 64 + t * 2 ^ 46 % 2 ^ 64 + f * 2 ^ 30 % 2 ^ 64 + c * 2 ^ 14 % 2 ^ 64 < 2 ^ 64
+  five-fit = rw (shl-exact 1 63 64 hl (omega arith), shl-exact 1 62 64 hk (omega arith), shl-exact 16 46 64 ht (omega arith), shl-exact 16 30 64 hf (omega arith), shl-exact 16 14 64 hc (omega arith)) (omega arith)
 
 -- a word by its fields
 pub same-run : (r : Run) (l k t f c : ℕ) → l ≡ r .lineStart → k ≡ r .kind → t ≡ r .target → f ≡ r .first → c ≡ r .count → runWord (run l k t f c) ≡ runWord r

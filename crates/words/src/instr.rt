@@ -11,6 +11,7 @@ ghost use Rattle.rules.specs.Word.{insWord, wordIns, insSpare};
 ghost use Rattle.rules.specs.Replace.{rules, lookup, ruleOf};
 ghost use Rattle.words.specs.Told as Told;
 use crate::number::Number;
+use Fields::Are;
 use Flow::Compared;
 use Flow::FromTo;
 use Flow::Itself;
@@ -329,12 +330,7 @@ impl Instruction {
         requires { ⌜ op < 64 ⌝ }
         ensures { λ r. ⌜ r .0 ≡ insWord (Instr.ins₃ op fst snd thd) ⌝ }
     {
-        Instruction(
-            op * 288230376151711744
-                + fst as u64 * 4398046511104
-                + snd as u64 * 67108864
-                + thd as u64 * 1024,
-        )
+        Instruction((op << 58) + ((fst as u64) << 42) + ((snd as u64) << 26) + ((thd as u64) << 10))
     }
 
     pub fn jump_section_if(target: Section, test: NumReg) -> Instruction
@@ -483,16 +479,16 @@ impl Instruction {
         ensures row { λ r. ⌜ Told.fieldsTold r ≡ getElem? Instr.table op ⌝ }
     {
         match op {
-            Self::JUMP_SECTION_IF => Fields::Are(Place, Num, Unused, Tested),
-            Self::JUMP_IF_ERROR => Fields::Are(Place, Unused, Unused, Nothing),
-            Self::COPY_NUM => Fields::Are(Num, Num, Unused, FromTo),
-            Self::COPY_STR => Fields::Are(Str, Str, Unused, FromTo),
-            Self::COPY_VAL => Fields::Are(Val, Val, Unused, FromTo),
-            Self::VALUEIFY_NUM => Fields::Are(Num, Val, Unused, FromTo),
-            Self::VALUEIFY_STR => Fields::Are(Str, Val, Unused, FromTo),
-            Self::STRINGIFY_NUM => Fields::Are(Num, Str, Unused, FromTo),
-            Self::STRINGIFY_VAL => Fields::Are(Val, Str, Unused, FromTo),
-            Self::NUMBERIFY_VAL | Self::IS_TRUTHY_VAL | Self::NOT_VAL => Fields::Are(
+            Self::JUMP_SECTION_IF => Are(Place, Num, Unused, Tested),
+            Self::JUMP_IF_ERROR => Are(Place, Unused, Unused, Nothing),
+            Self::COPY_NUM => Are(Num, Num, Unused, FromTo),
+            Self::COPY_STR => Are(Str, Str, Unused, FromTo),
+            Self::COPY_VAL => Are(Val, Val, Unused, FromTo),
+            Self::VALUEIFY_NUM => Are(Num, Val, Unused, FromTo),
+            Self::VALUEIFY_STR => Are(Str, Val, Unused, FromTo),
+            Self::STRINGIFY_NUM => Are(Num, Str, Unused, FromTo),
+            Self::STRINGIFY_VAL => Are(Val, Str, Unused, FromTo),
+            Self::NUMBERIFY_VAL | Self::IS_TRUTHY_VAL | Self::NOT_VAL => Are(
                 Val,
                 Num,
                 Unused,
@@ -504,23 +500,18 @@ impl Instruction {
             | Self::DIV
             | Self::REM
             | Self::POW
-            | Self::AND..=Self::OR => Fields::Are(Num, Num, Unused, Two),
-            Self::ADD_STR | Self::SUB_STR => Fields::Are(Str, Str, Unused, Two),
-            Self::ADD_VAL | Self::SUB_VAL => Fields::Are(Val, Val, Unused, Two),
-            Self::EQ..=Self::LT => Fields::Are(Val, Val, Num, Compared),
-            Self::ADD_SELF_STR | Self::INC_STR | Self::DEC_STR => Fields::Are(
-                Str,
-                Unused,
-                Unused,
-                Itself,
-            ),
-            Self::ADD_SELF_VAL | Self::SUB_SELF_VAL | Self::INC_VAL | Self::DEC_VAL => Fields::Are(
+            | Self::AND..=Self::OR => Are(Num, Num, Unused, Two),
+            Self::ADD_STR | Self::SUB_STR => Are(Str, Str, Unused, Two),
+            Self::ADD_VAL | Self::SUB_VAL => Are(Val, Val, Unused, Two),
+            Self::EQ..=Self::LT => Are(Val, Val, Num, Compared),
+            Self::ADD_SELF_STR | Self::INC_STR | Self::DEC_STR => Are(Str, Unused, Unused, Itself),
+            Self::ADD_SELF_VAL | Self::SUB_SELF_VAL | Self::INC_VAL | Self::DEC_VAL => Are(
                 Val,
                 Unused,
                 Unused,
                 Itself,
             ),
-            Self::IS_TRUTHY_NUM..=Self::NEG => Fields::Are(Num, Unused, Unused, Itself),
+            Self::IS_TRUTHY_NUM..=Self::NEG => Are(Num, Unused, Unused, Itself),
             _ => Fields::Refused,
         }
     }

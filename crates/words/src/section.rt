@@ -63,11 +63,11 @@ impl SectionWord {
         ensures { λ r. ⌜ r .0 ≡ runWord (Runs.run start kind target first count) ⌝ }
     {
         SectionWord(
-            start * 9223372036854775808
-                + kind * 4611686018427387904
-                + target as u64 * 70368744177664
-                + first as u64 * 1073741824
-                + count as u64 * 16384,
+            (start << 63)
+                + (kind << 62)
+                + ((target as u64) << 46)
+                + ((first as u64) << 30)
+                + ((count as u64) << 14),
         )
     }
 

@@ -14,7 +14,7 @@ impl StringWord {
         requires { ⌜ length < 128 ⌝ }
         ensures { λ r. ⌜ r .0 ≡ spanWord (Runs.span start length) ⌝ }
     {
-        StringWord(start as u32 * 65536 + length as u32 * 512)
+        StringWord(((start as u32) << 16) + ((length as u32) << 9))
     }
 
     pub fn start(self) -> u16

@@ -5,6 +5,7 @@ pub mod damaged;
 pub mod fixed;
 pub mod fixed_machines;
 pub mod machines;
+pub mod outcomes;
 pub mod trees;
 
 /// Takes from several lists in turn until all have run out.

@@ -7,6 +7,8 @@ use crate::machine::{Ins, Machine, Next, Sect, Span};
 use crate::tree;
 use parser::*;
 
+pub mod instrs;
+
 include!(concat!(env!("OUT_DIR"), "/yogi/conversions.rs"));
 
 // ---- a tree as yogi's

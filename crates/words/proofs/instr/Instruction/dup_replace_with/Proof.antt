@@ -47,22 +47,34 @@ enum-told-3 : tie.Need-enum-told-3
 enum-told-3 c = search needs
 
 returns-2 : tie.Need-returns-2
-returns-2 c = by-rule _ _ _ _ (c .before .before .before .before .before .before .fst .ensures) (c .before .before .before .before .before .snd .ensures) (c .before .before .before .before .if1 .left) (c .before .before .before .op .ensures) _ (c .before .before .dup-rule .ensures) _ (c .enum-told .given .1)
+returns-2 c =
+    let at = c .before .before in
+    by-rule _ _ _ _ (at .before .before .before .before .fst .ensures) (at .before .before .before .snd .ensures) (at .before .before .if1 .left) (at .before .op .ensures) _ (at .dup-rule .ensures) _ (c .enum-told .given .1)
 
 returns-3 : tie.Need-returns-3
-returns-3 c = by-rule _ _ _ _ (c .before .before .before .before .before .before .fst .ensures) (c .before .before .before .before .before .snd .ensures) (c .before .before .before .before .if1 .left) (c .before .before .before .op .ensures) _ (c .before .before .dup-rule .ensures) _ (c .enum-told2 .given .1)
+returns-3 c =
+    let at = c .before .before in
+    by-rule _ _ _ _ (at .before .before .before .before .fst .ensures) (at .before .before .before .snd .ensures) (at .before .before .if1 .left) (at .before .op .ensures) _ (at .dup-rule .ensures) _ (c .enum-told2 .given .1)
 
 returns-4 : tie.Need-returns-4
-returns-4 c = turned _ _ _ _ (c .before .before .before .before .before .before .before .before .fst .ensures) (c .before .before .before .before .before .before .before .snd .ensures) (c .before .before .before .before .before .before .if1 .left) (c .before .before .before .before .before .op .ensures) _ (c .before .before .before .before .dup-rule .ensures) _ (c .before .before .op2 .given .1) _ (c .word .ensures)
+returns-4 c =
+    let at = c .before .before .before .before in
+    turned _ _ _ _ (at .before .before .before .before .fst .ensures) (at .before .before .before .snd .ensures) (at .before .before .if1 .left) (at .before .op .ensures) _ (at .dup-rule .ensures) _ (c .before .before .op2 .given .1) _ (c .word .ensures)
 
 returns-5 : tie.Need-returns-5
-returns-5 c = rw (c .before .before .before .before .before .before .before .fst .ensures) (by-rule _ _ _ _ (c .before .before .before .before .before .before .before .fst .ensures) (c .before .before .before .before .before .before .snd .ensures) (c .before .before .before .before .before .if1 .left) (c .before .before .before .before .op .ensures) _ (c .before .before .before .dup-rule .ensures) _ (c .before .n .given .1))
+returns-5 c =
+    let at = c .before .before .before in
+    rw (c .before .before .before .before .before .before .before .fst .ensures) (by-rule _ _ _ _ (at .before .before .before .before .fst .ensures) (at .before .before .before .snd .ensures) (at .before .before .if1 .left) (at .before .op .ensures) _ (at .dup-rule .ensures) _ (c .before .n .given .1))
 
 returns-6 : tie.Need-returns-6
-returns-6 c = rw (c .thd .ensures) (by-rule _ _ _ _ (c .before .before .before .before .before .before .before .before .fst .ensures) (c .before .before .before .before .before .before .before .snd .ensures) (c .before .before .before .before .before .before .if1 .left) (c .before .before .before .before .before .op .ensures) _ (c .before .before .before .before .dup-rule .ensures) _ (c .before .before .n2 .given .1))
+returns-6 c =
+    let at = c .before .before .before .before in
+    rw (c .thd .ensures) (by-rule _ _ _ _ (at .before .before .before .before .fst .ensures) (at .before .before .before .snd .ensures) (at .before .before .if1 .left) (at .before .op .ensures) _ (at .dup-rule .ensures) _ (c .before .before .n2 .given .1))
 
 returns-7 : tie.Need-returns-7
-returns-7 c = rw (c .before .before .before .before .before .before .fst .ensures) (by-rule _ _ _ _ (c .before .before .before .before .before .before .fst .ensures) (c .before .before .before .before .before .snd .ensures) (c .before .before .before .before .if1 .left) (c .before .before .before .op .ensures) _ (c .before .before .dup-rule .ensures) _ (c .enum-told3 .given .1))
+returns-7 c =
+    let at = c .before .before in
+    rw (c .before .before .before .before .before .before .fst .ensures) (by-rule _ _ _ _ (at .before .before .before .before .fst .ensures) (at .before .before .before .snd .ensures) (at .before .before .if1 .left) (at .before .op .ensures) _ (at .dup-rule .ensures) _ (c .enum-told3 .given .1))
 
 pub dup-replace-with-spec : {M : Type 1} → statement M
 dup-replace-with-spec =

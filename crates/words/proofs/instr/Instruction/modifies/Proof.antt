@@ -48,16 +48,24 @@ of-requires-3 : tie.Need-of-requires-3
 of-requires-3 c κs = search needs
 
 returns-2 : tie.Need-returns-2
-returns-2 c = modifies-nothing _ _ _ (c .before .before .before .before .before .op .ensures) (c .before .before .before .before .fields .ensures .1) _ _ _ _ (c .before .before .a .given .1) (flows flowModifies none (0 ∷ 1 ∷ []) refl (c .before .before .a .given .0 .1 .1 .1 .0) (c .match2 .keys1))
+returns-2 c =
+    let at = c .before .before in
+    modifies-nothing _ _ _ (at .before .before .before .op .ensures) (at .before .before .fields .ensures .1) _ _ _ _ (at .a .given .1) (flows flowModifies none (0 ∷ 1 ∷ []) refl (at .a .given .0 .1 .1 .1 .0) (c .match2 .keys1))
 
 returns-3 : tie.Need-returns-3
-returns-3 c = rw (c .of .ensures) (modifies-first _ _ _ (c .before .before .before .before .before .before .before .op .ensures) (c .before .before .before .before .before .before .fields .ensures .1) _ _ _ _ (c .before .before .before .before .a .given .1) (flows flowModifies (some 0) (2 ∷ 4 ∷ []) refl (c .before .before .before .before .a .given .0 .1 .1 .1 .0) (c .before .before .match2 .keys2)) _ (c .before .fst .ensures))
+returns-3 c =
+    let at = c .before .before .before .before in
+    rw (c .of .ensures) (modifies-first _ _ _ (at .before .before .before .op .ensures) (at .before .before .fields .ensures .1) _ _ _ _ (at .a .given .1) (flows flowModifies (some 0) (2 ∷ 4 ∷ []) refl (at .a .given .0 .1 .1 .1 .0) (c .before .before .match2 .keys2)) _ (c .before .fst .ensures))
 
 returns-4 : tie.Need-returns-4
-returns-4 c = rw (c .of2 .ensures) (modifies-second _ _ _ (c .before .before .before .before .before .before .before .before .op .ensures) (c .before .before .before .before .before .before .before .fields .ensures .1) _ _ _ _ (c .before .before .before .before .before .a .given .1) (ap flowModifies (c .before .before .enum-told2 .given .1)) _ (c .before .snd .ensures))
+returns-4 c =
+    let at = c .before .before .before .before .before in
+    rw (c .of2 .ensures) (modifies-second _ _ _ (at .before .before .before .op .ensures) (at .before .before .fields .ensures .1) _ _ _ _ (at .a .given .1) (ap flowModifies (c .before .before .enum-told2 .given .1)) _ (c .before .snd .ensures))
 
 returns-5 : tie.Need-returns-5
-returns-5 c = rw (c .of3 .ensures) (modifies-third _ _ _ (c .before .before .before .before .before .before .before .before .op .ensures) (c .before .before .before .before .before .before .before .fields .ensures .1) _ _ _ _ (c .before .before .before .before .before .a .given .1) (ap flowModifies (c .before .before .enum-told3 .given .1)) _ (c .before .thd .ensures))
+returns-5 c =
+    let at = c .before .before .before .before .before in
+    rw (c .of3 .ensures) (modifies-third _ _ _ (at .before .before .before .op .ensures) (at .before .before .fields .ensures .1) _ _ _ _ (at .a .given .1) (ap flowModifies (c .before .before .enum-told3 .given .1)) _ (c .before .thd .ensures))
 
 pub modifies-spec : {M : Type 1} → statement M
 modifies-spec =

@@ -68,16 +68,27 @@ two-requires : tie.Need-two-requires
 two-requires c κs = search needs
 
 returns-2 : tie.Need-returns-2
-returns-2 c = c .none2 .ensures ∙ reads-nothing _ _ _ (c .before .before .before .before .before .before .before .op .ensures) (c .before .before .before .before .before .before .fields .ensures .1) _ _ _ _ (c .before .before .before .before .a .given .1) (ap flowReads (c .before .enum-told2 .given .1))
+returns-2 c =
+    let at = c .before .before .before .before in
+    c .none2 .ensures ∙ reads-nothing _ _ _ (at .before .before .before .op .ensures) (at .before .before .fields .ensures .1) _ _ _ _ (at .a .given .1) (ap flowReads (c .before .enum-told2 .given .1))
 
 returns-3 : tie.Need-returns-3
-returns-3 c = c .one .ensures ∙ rw (c .before .of .ensures) (reads-second _ _ _ (c .before .before .before .before .before .before .before .before .before .op .ensures) (c .before .before .before .before .before .before .before .before .fields .ensures .1) _ _ _ _ (c .before .before .before .before .before .before .a .given .1) (ap flowReads (c .before .before .before .enum-told3 .given .1)) _ (c .before .before .snd .ensures))
+returns-3 c =
+    let at = c .before .before .before .before .before .before in
+    c .one .ensures
+    ∙ rw (c .before .of .ensures) (reads-second _ _ _ (at .before .before .before .op .ensures) (at .before .before .fields .ensures .1) _ _ _ _ (at .a .given .1) (ap flowReads (c .before .before .before .enum-told3 .given .1)) _ (c .before .before .snd .ensures))
 
 returns-4 : tie.Need-returns-4
-returns-4 c = c .one2 .ensures ∙ rw (c .before .of2 .ensures) (reads-first _ _ _ (c .before .before .before .before .before .before .before .before .op .ensures) (c .before .before .before .before .before .before .before .fields .ensures .1) _ _ _ _ (c .before .before .before .before .before .a .given .1) (flows flowReads (0 ∷ []) (2 ∷ 3 ∷ []) refl (c .before .before .before .before .before .a .given .0 .1 .1 .1 .0) (c .before .before .before .match2 .keys3)) _ (c .before .before .fst .ensures))
+returns-4 c =
+    let at = c .before .before .before .before .before in
+    c .one2 .ensures
+    ∙ rw (c .before .of2 .ensures) (reads-first _ _ _ (at .before .before .before .op .ensures) (at .before .before .fields .ensures .1) _ _ _ _ (at .a .given .1) (flows flowReads (0 ∷ []) (2 ∷ 3 ∷ []) refl (at .a .given .0 .1 .1 .1 .0) (c .before .before .before .match2 .keys3)) _ (c .before .before .fst .ensures))
 
 returns-5 : tie.Need-returns-5
-returns-5 c = c .two .ensures ∙ rw (c .before .before .before .of3 .ensures, c .before .of4 .ensures) (reads-both _ _ _ (c .before .before .before .before .before .before .before .before .before .before .op .ensures) (c .before .before .before .before .before .before .before .before .before .fields .ensures .1) _ _ _ _ (c .before .before .before .before .before .before .before .a .given .1) (flows flowReads (0 ∷ 1 ∷ []) (4 ∷ 5 ∷ []) refl (c .before .before .before .before .before .before .before .a .given .0 .1 .1 .1 .0) (c .before .before .before .before .before .match2 .keys4)) _ _ (c .before .before .before .before .fst2 .ensures) (c .before .before .snd2 .ensures))
+returns-5 c =
+    let at = c .before .before .before .before .before .before .before in
+    c .two .ensures
+    ∙ rw (c .before .before .before .of3 .ensures, c .before .of4 .ensures) (reads-both _ _ _ (at .before .before .before .op .ensures) (at .before .before .fields .ensures .1) _ _ _ _ (at .a .given .1) (flows flowReads (0 ∷ 1 ∷ []) (4 ∷ 5 ∷ []) refl (at .a .given .0 .1 .1 .1 .0) (c .before .before .before .before .before .match2 .keys4)) _ _ (c .before .before .before .before .fst2 .ensures) (c .before .before .snd2 .ensures))
 
 pub reads-spec : {M : Type 1} → statement M
 reads-spec =

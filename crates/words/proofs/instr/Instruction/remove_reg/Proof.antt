@@ -50,7 +50,10 @@ word-requires : tie.Need-word-requires
 word-requires c κs = op-lt _ _ (c .op2 .ensures)
 
 returns-2 : tie.Need-returns-2
-returns-2 c = c .word .ensures ∙ ap insWord (rw (c .before .op2 .ensures) (removes _ _ _ refl (rw (c .before .before .before .before .before .before .before .before .before .before .before .before .op .ensures) at (c .before .before .before .before .before .before .before .before .before .before .before .fields .ensures .1)) _ _ _ _ (c .before .before .before .before .before .before .before .before .before .a .given .1) _ _ _ _ _ (rw (c .before .before .before .before .before .before .before .fst .ensures) at (c .before .before .before .before .before .before .fall-of .ensures)) (rw (c .before .before .before .before .before .snd .ensures) at (c .before .before .before .before .fall-of2 .ensures)) (rw (c .before .before .before .thd .ensures) at (c .before .before .fall-of3 .ensures))))
+returns-2 c =
+    let at = c .before .before .before .before .before .before .before .before .before in
+    c .word .ensures
+    ∙ ap insWord (rw (c .before .op2 .ensures) (removes _ _ _ refl (rw (at .before .before .before .op .ensures) at (at .before .before .fields .ensures .1)) _ _ _ _ (at .a .given .1) _ _ _ _ _ (rw (c .before .before .before .before .before .before .before .fst .ensures) at (c .before .before .before .before .before .before .fall-of .ensures)) (rw (c .before .before .before .before .before .snd .ensures) at (c .before .before .before .before .fall-of2 .ensures)) (rw (c .before .before .before .thd .ensures) at (c .before .before .fall-of3 .ensures))))
 
 pub remove-reg-spec : {M : Type 1} → statement M
 remove-reg-spec =

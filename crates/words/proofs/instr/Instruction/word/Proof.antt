@@ -5,23 +5,11 @@ use Rattle.rules.specs.Word.{insWord}
 use Rattle.words.proofs.instr.Instruction.word.Statement.{statement}
 use Rattle.words.proofs.instr.Instruction.word.Tie as tie
 
-mul-t5 : tie.Need-mul-t5
-mul-t5 c = search needs
-
-mul-t7 : tie.Need-mul-t7
-mul-t7 c = search needs
-
 add-t8 : tie.Need-add-t8
 add-t8 c = search needs
 
-mul-t10 : tie.Need-mul-t10
-mul-t10 c = search needs
-
 add-t11 : tie.Need-add-t11
 add-t11 c = search needs
-
-mul-t13 : tie.Need-mul-t13
-mul-t13 c = search needs
 
 add-t14 : tie.Need-add-t14
 add-t14 c = search needs
@@ -31,4 +19,4 @@ unfolding insWord
 returns c = omega arith
 
 pub word-spec : {M : Type 1} → statement M
-word-spec = tie.close (tie.spec mul-t5 mul-t7 add-t8 mul-t10 add-t11 mul-t13 add-t14 returns)
+word-spec = tie.close (tie.spec add-t8 add-t11 add-t14 returns)

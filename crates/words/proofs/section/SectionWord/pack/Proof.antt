@@ -1,7 +1,8 @@
 -- `SectionWord::pack` meets its contract. Assumes nothing.
 use borrow.Author.Needs.{needs}
 use mathlib.Core.Path.{refl, _∙_}
-use Rattle.words.proofs.Sections.{flag-lt, kindOf-lt, same-run}
+use Rattle.laws.specs.Success.{flag-lt, kind-lt}
+use Rattle.words.proofs.Sections.{same-run}
 use Rattle.words.proofs.section.SectionWord.pack.Statement.{statement}
 use Rattle.words.proofs.section.SectionWord.pack.Tie as tie
 
@@ -15,7 +16,7 @@ target-requires : tie.Need-target-requires
 target-requires c κs = search needs
 
 word-requires : tie.Need-word-requires
-word-requires c κs = (flag-lt _ _ (c .before .before .flag .ensures), kindOf-lt _ _ (c .before .kind .ensures))
+word-requires c κs = (rw (c .before .before .flag .ensures) (flag-lt _), rw (c .before .kind .ensures) (kind-lt _))
 
 returns : tie.Need-returns
 returns c = c .word .ensures ∙ same-run _ _ _ _ _ _ (c .before .before .before .flag .ensures) (c .before .before .kind .ensures) (c .before .target .ensures) refl refl

@@ -1,7 +1,8 @@
 -- `SectionWord::with_success` meets its contract. Assumes nothing.
 use borrow.Author.Needs.{needs}
 use mathlib.Core.Path.{_∙_}
-use Rattle.words.proofs.Sections.{start-lt, kindOf-lt, same-run}
+use Rattle.laws.specs.Success.{kind-lt}
+use Rattle.words.proofs.Sections.{start-lt, same-run}
 use Rattle.words.proofs.section.SectionWord.with_success.Statement.{statement}
 use Rattle.words.proofs.section.SectionWord.with_success.Tie as tie
 
@@ -21,7 +22,7 @@ count-requires : tie.Need-count-requires
 count-requires c κs = search needs
 
 word-requires : tie.Need-word-requires
-word-requires c κs = (start-lt _ _ (c .before .before .before .before .start .ensures), kindOf-lt _ _ (c .before .before .before .kind .ensures))
+word-requires c κs = (start-lt _ _ (c .before .before .before .before .start .ensures), rw (c .before .before .before .kind .ensures) (kind-lt _))
 
 returns : tie.Need-returns
 returns c = c .word .ensures ∙ same-run _ _ _ _ _ _ (c .before .before .before .before .before .start .ensures) (c .before .before .before .before .kind .ensures) (c .before .before .before .target .ensures) (c .before .before .first .ensures) (c .before .count .ensures)

@@ -5,12 +5,6 @@ use Rattle.rules.specs.Word.{spanWord}
 use Rattle.words.proofs.text.StringWord.pack.Statement.{statement}
 use Rattle.words.proofs.text.StringWord.pack.Tie as tie
 
-mul-t4 : tie.Need-mul-t4
-mul-t4 c = search needs
-
-mul-t6 : tie.Need-mul-t6
-mul-t6 c = search needs
-
 add-t7 : tie.Need-add-t7
 add-t7 c = search needs
 
@@ -19,4 +13,4 @@ unfolding spanWord
 returns c = omega arith
 
 pub pack-spec : {M : Type 1} → statement M
-pack-spec = tie.close (tie.spec mul-t4 mul-t6 add-t7 returns)
+pack-spec = tie.close (tie.spec add-t7 returns)

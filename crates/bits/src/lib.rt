@@ -1,0 +1,162 @@
+// Fields of bits, most significant first, and the steps of a reader over them.
+//
+// Each function is shown equal to the reader of the same name in `rules`, or to a definition of specs/Reads over those readers.
+// A caller owes a cursor within the file and the limits (`Fine`), which the first cursor is and each step hands on.
+pub mod limits;
+pub mod refusal;
+
+ghost use mathlib.Core.Path.{_≡_};
+ghost use Prim.Native.Nat.{_≤_, _<_, _+_, _*_, _%_, _^_};
+ghost use lib.ListN.{length};
+ghost use Rattle.rules.specs.Constants.{mostBytes, byteBits, numberBits};
+ghost use Rattle.rules.specs.Bits.{field, spelled};
+ghost use Rattle.rules.specs.Parse.{bits};
+ghost use Rattle.bits.specs.Reads.{fieldRes, Fine, Takes, Skips, belowR, beginR};
+use limits::BYTE_BITS;
+use limits::CHAR_BITS;
+use limits::MOST_NODES;
+use refusal::ENDS_IN_FIELD;
+use refusal::TOO_DEEP;
+use refusal::TOO_MANY_NODES;
+
+// A value with the next bit position, or the end of the file inside the field.
+pub enum Field {
+    Value(u64, usize),
+    Short,
+}
+
+// Where the reader stands, and what it has counted: nodes, the statements among them, the sections that lowering makes of those,
+// strings and their characters.
+pub struct Cursor {
+    pub pos: usize,
+    pub nodes: usize,
+    pub statements: usize,
+    pub sections: usize,
+    pub strings: usize,
+    pub chars: usize,
+}
+
+// What a step of the reader gives: a number and the next cursor, or the number that refuses the file.
+pub enum Step {
+    Next(u64, Cursor),
+    Refused(u64),
+}
+
+fn wide(x: u8) -> u64
+    ensures { λ r. ⌜ r ≡ x ⌝ }
+{
+    x as u64
+}
+
+// How many of the w bits at p lie in the byte where p stands.
+fn chunk(p: usize, w: usize) -> usize
+    requires { ⌜ 0 < w ⌝ }
+    ensures { λ r. ⌜ (0 < r) × (r ≤ w) × (p % byteBits + r ≤ byteBits) ⌝ }
+{
+    let room = BYTE_BITS - p % BYTE_BITS;
+    if w < room {
+        return w;
+    }
+    room
+}
+
+// The number that n bits within one byte spell.
+fn part(s: &[u8], p: usize, n: usize) -> u64
+    requires { ⌜ (0 < n) × (p % byteBits + n ≤ byteBits) × (p + n ≤ byteBits * length (now s)) ⌝ }
+    ensures { λ r. ⌜ r ≡ spelled (now (s .entry)) n p ⌝ }
+{
+    let low = BYTE_BITS - p % BYTE_BITS - n;
+    (wide(s[p / BYTE_BITS]) >> low) & ((1 << n) - 1)
+}
+
+// The number that the w bits at a position spell, where they are: byte by byte.
+pub fn peek(s: &[u8], at: usize, w: usize) -> u64
+    requires { ⌜ (length (now s) ≤ mostBytes) × ((w ≤ numberBits) × (at + w ≤ byteBits * length (now s))) ⌝ }
+    ensures { λ r. ⌜ r ≡ spelled (now (s .entry)) w at ⌝ }
+{
+    let mut v: u64 = 0;
+    let mut k: usize = 0;
+    while k < w {
+        let n = chunk(at + k, w - k);
+        v = (v << n) + part(s, at + k, n);
+        k += n;
+    }
+    v
+}
+
+pub fn read_field(s: &[u8], at: usize, w: usize) -> Field
+    requires { ⌜ (length (now s) ≤ mostBytes) × (w ≤ numberBits) ⌝ }
+    ensures { λ r. ⌜ fieldRes r ≡ field (now (s .entry)) w at ⌝ }
+{
+    let bits = s.len() * BYTE_BITS;
+    if at > bits {
+        return Field::Short;
+    }
+    if w > bits - at {
+        return Field::Short;
+    }
+    Field::Value(peek(s, at, w), at + w)
+}
+
+// The next w bits.
+pub fn take(s: &[u8], c: Cursor, w: usize) -> Step
+    requires { ⌜ (Fine (now s) c) × (w ≤ numberBits) ⌝ }
+    ensures { λ r. ⌜ Takes (bits w) (now (s .entry)) c 0 0 (2 ^ w) r ⌝ }
+{
+    let Field::Value(v, p) = read_field(s, c.pos, w) else {
+        return Step::Refused(ENDS_IN_FIELD);
+    };
+    let mut d = c;
+    d.pos = p;
+    Step::Next(v, d)
+}
+
+// The next w bits, refused by `number` unless they are below `limit`.
+pub fn below(s: &[u8], c: Cursor, w: usize, limit: u64, number: u64) -> Step
+    requires { ⌜ (Fine (now s) c) × (w ≤ numberBits) ⌝ }
+    ensures { λ r. ⌜ Takes (belowR w limit number) (now (s .entry)) c 0 0 limit r ⌝ }
+{
+    let r = take(s, c, w);
+    let Step::Next(v, d) = r else {
+        return r;
+    };
+    if v >= limit {
+        return Step::Refused(number);
+    }
+    Step::Next(v, d)
+}
+
+// A node begins with `depth` levels left, itself among them, and the w bits of its kind: first it must not be too deep, then not one too many.
+// A statement (more is 1) is counted here, with its own section.
+pub fn begin(s: &[u8], c: Cursor, w: usize, more: usize, depth: usize) -> Step
+    requires { ⌜ (Fine (now s) c) × ((w ≤ numberBits) × (more ≤ 1)) ⌝ }
+    ensures { λ r. ⌜ Takes (beginR w depth) (now (s .entry)) c 1 more (2 ^ w) r ⌝ }
+{
+    let n = c.nodes;
+    if depth == 0 {
+        return Step::Refused(TOO_DEEP);
+    }
+    if n >= MOST_NODES {
+        return Step::Refused(TOO_MANY_NODES);
+    }
+    let mut d = c;
+    d.nodes = n + 1;
+    d.statements = c.statements + more;
+    d.sections = c.sections + more;
+    take(s, d, w)
+}
+
+// n characters are there, and are passed over.
+pub fn skip(s: &[u8], c: Cursor, n: usize) -> Step
+    requires { ⌜ (Fine (now s) c) × (n ≤ 128) ⌝ }
+    ensures { λ r. ⌜ Skips n (now (s .entry)) c r ⌝ }
+{
+    let bits = s.len() * BYTE_BITS;
+    let p = c.pos;
+    if bits - p < CHAR_BITS * n {
+        return Step::Refused(ENDS_IN_FIELD);
+    }
+    let mut d = c;
+    d.pos = p + CHAR_BITS * n;
+    Step::Next(0, d)
+}

@@ -1,0 +1,3 @@
+pub mod Walks
+pub mod Ways
+pub mod Whole

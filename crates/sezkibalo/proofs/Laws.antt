@@ -1,0 +1,57 @@
+-- How a call through the static library answers: by the tests in their order. Assumes nothing.
+use mathlib.Core.Path.{_≡_, refl, sym, ap, ap₂, _∙_}
+use mathlib.Core.List.{List}
+use Prim.Native.Nat.{ℕ, _≤_, _<_}
+use lib.ListN.{length}
+use borrow.Author.Tests.{lt-ltb, le-ltb}
+use Rattle.rules.specs.Word.{Span}
+use Rattle.rules.specs.Bits.{Res, refused, ok}
+use Rattle.rules.specs.Operations.{Size, size, textSpan}
+use Rattle.rules.specs.Tables.{Tables, Counts}
+use Rattle.sezkibalo.specs.Calls.{sizeAnswer, sizeCall, spotOf, textCall, front, countsRow, rowCounts, answerRow, beside, changeCall}
+use Rattle.tables.specs.declared.counts.Counts.{Counts as Lent}
+use Rattle.tables.specs.declared.answer.Answer.{Answer}
+use Rattle.tables.specs.declared.answer.Answer.the-variants.{Done, Refused}
+use Rattle.tables.specs.Lent.{countsTold, answerTold}
+
+-- `counts` is too short
+pub size-short : (s c : List ℕ) → length c < 6 → (11, c) ≡ sizeCall s c
+unfolding sizeCall
+size-short s c h = rw (lt-ltb (length c) 6 h, sizeCall)
+
+-- it is not, and x is the answer
+pub size-answers : (s c : List ℕ) (x : Res Size) → 6 ≤ length c → x ≡ size s → sizeAnswer x c ≡ sizeCall s c
+unfolding sizeCall
+size-answers s c x h e = rw (le-ltb (length c) 6 h, sizeCall, e)
+
+-- ---- replace, clean, combine: an operation f
+
+module _ (f : Tables → Counts → Res Counts × Tables) (c : List ℕ) (t : Tables) where
+  pub change-short : length c < 8 → (11, c, t) ≡ changeCall f c t
+  unfolding changeCall
+  change-short h = rw (lt-ltb (length c) 8 h, changeCall)
+
+  -- the answer x and the tables u afterwards, where f was called with the counts v; p is the answer as numbers
+  pub change-answers : (v : Counts) (x : Res Counts) (u : Tables) (p : ℕ × List ℕ) → 8 ≤ length c → v ≡ rowCounts c → (x, u) ≡ f t v → p ≡ answerRow x c → beside p u ≡ changeCall f c t
+  unfolding changeCall
+  change-answers v x u p h r e q =
+      let e′ : (x, u) ≡ f t (rowCounts c) = e ∙ ap (f t) r in
+      ap (λ (z : ℕ × List ℕ). beside z u) q
+      ∙ (ap₂ (λ (a : Res Counts) (b : Tables). beside (answerRow a c) b) (ap (λ (y : Res Counts × Tables). y .0) e′) (ap (λ (y : Res Counts × Tables). y .1) e′) ∙ sym (rw (le-ltb (length c) 8 h, changeCall)))
+
+-- what an answer is found to be
+pub told-refused : (a : Answer) (n : ℕ) (c : List ℕ) → a ≡ Refused n → (n, c) ≡ answerRow (answerTold a) c
+told-refused a n c e = ap (λ (z : Answer). answerRow (answerTold z) c) (sym e)
+
+pub told-done : (a : Answer) (d : Lent) (c k : List ℕ) → a ≡ Done d → k ≡ front (countsRow (countsTold d)) c → (0, k) ≡ answerRow (answerTold a) c
+told-done a d c k e w = ap (λ (z : List ℕ). (0, z)) w ∙ ap (λ (z : Answer). answerRow (answerTold z) c) (sym e)
+
+-- ---- text
+
+pub text-bad : (ts p : List ℕ) (r : ℕ) → 65535 < r → spotOf (length p) 0 ≡ textCall ts p r
+unfolding textCall
+text-bad ts p r h = sym (rw (lt-ltb 65535 r h, textCall))
+
+pub text-placed : (ts p : List ℕ) (r s n : ℕ) → r ≤ 65535 → record { start = s; size = n } ≡ textSpan ts p r → spotOf s n ≡ textCall ts p r
+unfolding textCall
+text-placed ts p r s n h e = ap (λ (z : Span). spotOf (z .start) (z .size)) e ∙ sym (rw (le-ltb 65535 r h, textCall))

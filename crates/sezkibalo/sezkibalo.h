@@ -1,0 +1,36 @@
+/* Sezkibalo's static library. A slice is a pointer to its first word and its length in words.
+   Each call but sezkibalo_text answers 0, or the number of its refusal and has then written nothing. */
+#ifndef SEZKIBALO_H
+#define SEZKIBALO_H
+
+#include <stddef.h>
+#include <stdint.h>
+
+/* The sizes of a tree file: lines, names, statements, nodes, strings, characters, into the first six of counts. */
+uint64_t sezkibalo_size(const uint8_t *tree, size_t tree_len, uint64_t *counts, size_t counts_len);
+
+/* Calls on a machine in lent tables. The first eight of counts are lines, sections, instructions, numbers, strings, characters of the pool,
+   values, names; they are read, and written where the call is not refused. Fewer than eight are 11 before all else. */
+
+/* Duplicate operands are replaced: 12, then 11. */
+uint64_t sezkibalo_replace(uint64_t *counts, size_t counts_len, uint64_t *sections, size_t sections_len,
+                           uint64_t *instructions, size_t instructions_len, int64_t *numbers, size_t numbers_len,
+                           uint32_t *strings, size_t strings_len, const uint8_t *pool, size_t pool_len,
+                           const uint16_t *names, size_t names_len);
+
+/* Unfixed sections are removed: 12, then 13. */
+uint64_t sezkibalo_clean(uint64_t *counts, size_t counts_len, uint64_t *sections, size_t sections_len,
+                         uint64_t *instructions, size_t instructions_len, int64_t *numbers, size_t numbers_len,
+                         uint32_t *strings, size_t strings_len, const uint8_t *pool, size_t pool_len,
+                         const uint16_t *names, size_t names_len);
+
+/* Sections are joined until no pair is left: 12, then 14, then 15. */
+uint64_t sezkibalo_combine(uint64_t *counts, size_t counts_len, uint64_t *sections, size_t sections_len,
+                           uint64_t *instructions, size_t instructions_len, int64_t *numbers, size_t numbers_len,
+                           uint32_t *strings, size_t strings_len, const uint8_t *pool, size_t pool_len,
+                           const uint16_t *names, size_t names_len);
+
+/* The place of a string register's text in the pool: start * 2^32 + length; empty, at the pool's end, where register or word is bad. */
+uint64_t sezkibalo_text(const uint32_t *strings, size_t strings_len, const uint8_t *pool, size_t pool_len, uint64_t reg);
+
+#endif

@@ -1,0 +1,70 @@
+-- What each call through the static library answers, and what is lent afterwards: document 01's operations with plain numbers. 0 is an
+-- answer that does not refuse.
+use mathlib.Core.Bool.{true, false}
+use mathlib.Core.List.{List, [], _∷_, _++_}
+use Prim.Native.Nat.{ℕ, _+_, _*_, _^_, _-_, min}
+use lib.Dec.{ltb}
+use lib.ListN.{length, drop, getD}
+use Rattle.rules.specs.Constants.{mostCount}
+use Rattle.rules.specs.Refusal as Refusal
+use Rattle.rules.specs.Bits.{Res, refused, ok}
+use Rattle.rules.specs.Tables.{Tables, Counts}
+use Rattle.rules.specs.Operations.{Size, size, textSpan}
+
+-- numbers at the start of a lent list, the rest as it was
+abbrev pub front : List ℕ → List ℕ → List ℕ
+front ws c = ws ++ drop (length ws) c
+
+-- ---- size
+
+-- the sizes in their order
+abbrev pub sizeRow : Size → List ℕ
+sizeRow z = z .lines ∷ z .names ∷ z .statements ∷ z .nodes ∷ z .strings ∷ z .characters ∷ []
+
+abbrev pub sizeAnswer : Res Size → List ℕ → ℕ × List ℕ
+sizeAnswer (refused n) c = (n, c)
+sizeAnswer (ok z) c = (0, front (sizeRow z) c)
+
+-- sezkibalo_size: 11 before all else where `counts` has no room for six
+unfoldable pub sizeCall : List ℕ → List ℕ → ℕ × List ℕ
+sizeCall s c = elim (ltb (length c) 6) [ true ↦ (Refusal.noRoom, c) | false ↦ sizeAnswer (size s) c ]
+
+-- ---- replace, clean, combine
+
+-- the counts in their order
+abbrev pub countsRow : Counts → List ℕ
+countsRow u = u .lines ∷ u .sections ∷ u .instrs ∷ u .numbers ∷ u .strings ∷ u .pool ∷ u .values ∷ u .names ∷ []
+
+abbrev pub rowCounts : List ℕ → Counts
+rowCounts c = record {
+  lines = getD c 0 0;
+  sections = getD c 1 0;
+  instrs = getD c 2 0;
+  numbers = getD c 3 0;
+  strings = getD c 4 0;
+  pool = getD c 5 0;
+  names = getD c 7 0;
+  values = getD c 6 0;
+}
+
+-- an answer as a number, and the lent list behind it
+abbrev pub answerRow : Res Counts → List ℕ → ℕ × List ℕ
+answerRow (refused n) c = (n, c)
+answerRow (ok u) c = (0, front (countsRow u) c)
+
+abbrev pub beside : ℕ × List ℕ → Tables → ℕ × List ℕ × Tables
+beside p t = (p .0, p .1, t)
+
+-- an operation f on the machine in the tables: 11 before all else where `counts` has no room for eight
+unfoldable pub changeCall : (Tables → Counts → Res Counts × Tables) → List ℕ → Tables → ℕ × List ℕ × Tables
+changeCall f c t = elim (ltb (length c) 8) [ true ↦ (Refusal.noRoom, c, t) | false ↦ beside (answerRow (f t (rowCounts c) .0) c) (f t (rowCounts c) .1) ]
+
+-- ---- text
+
+-- a start and a length in one number; a start above 2^32 - 1 is said as that
+abbrev pub spotOf : ℕ → ℕ → ℕ
+spotOf s n = min s (2 ^ 32 - 1) * 2 ^ 32 + n
+
+-- sezkibalo_text: no register has a number above 65,535
+unfoldable pub textCall : List ℕ → List ℕ → ℕ → ℕ
+textCall ts p r = elim (ltb mostCount r) [ true ↦ spotOf (length p) 0 | false ↦ spotOf (textSpan ts p r .start) (textSpan ts p r .size) ]

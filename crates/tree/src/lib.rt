@@ -1,0 +1,174 @@
+// A whole file: its tree in lent tables, and its size.
+//
+// `size` is shown equal to `size` of `rules`, and asks nothing. `read_tree` refuses as `parse` does, or the tables hold the tree
+// that `parse` reads; it asks for a node table of 2,048 words and a line table of 255.
+ghost use mathlib.Core.Path.{_≡_};
+ghost use Prim.Native.Nat.{_≤_, _<_, _*_, _+_};
+ghost use lib.ListN.{length};
+ghost use Rattle.rules.specs.Constants.{mostBytes, mostNodes, mostLines};
+ghost use Rattle.rules.specs.Parse.{fill as fillS};
+ghost use Rattle.rules.specs.Operations.{size as sizeS};
+ghost use Rattle.bits.specs.Reads.{Fine, Takes};
+ghost use Rattle.nodes.specs.Builds.{Ready};
+ghost use Rattle.tree.specs.Files.{LinesRead, HeadRead, FileRead, TreeRead, sizeRes};
+use bits::Cursor;
+use bits::Step;
+use bits::limits::BYTE_BITS;
+use bits::limits::FORM;
+use bits::limits::HEAD_BITS;
+use bits::limits::MOST_BYTES;
+use bits::limits::MOST_DEPTH;
+use bits::limits::MOST_LINES;
+use bits::limits::MOST_NODES;
+use bits::limits::NAME_BITS;
+use bits::refusal::LEFT_OVER;
+use bits::refusal::OTHER_FORM;
+use bits::refusal::TOO_LONG;
+use bits::refusal::ZERO_LINES;
+
+// Lines and names are counted below this.
+const HEAD_VALUES: u64 = 256;
+
+// What is counted of a tree.
+pub struct Sizes {
+    pub lines: u64,
+    pub names: u64,
+    pub statements: usize,
+    pub nodes: usize,
+    pub strings: usize,
+    pub characters: usize,
+}
+
+// The sizes, or the number that refuses the file.
+pub enum SizeAnswer {
+    Sized(Sizes),
+    Refused(u64),
+}
+
+// The end: fewer than a byte is left, all zero.
+fn fill(s: &[u8], c: Cursor) -> Step
+    requires { ⌜ Fine (now s) c ⌝ }
+    ensures { λ r. ⌜ Takes fillS (now (s .entry)) c 0 0 10 r ⌝ }
+{
+    let bits = s.len() * BYTE_BITS;
+    let p = c.pos;
+    let rest = bits - p;
+    if rest >= BYTE_BITS {
+        return Step::Refused(LEFT_OVER);
+    }
+    if bits::peek(s, p, rest) != 0 {
+        return Step::Refused(LEFT_OVER);
+    }
+    Step::Next(LEFT_OVER, c)
+}
+
+// The lines: of each its count of statements and its first node are kept in one word.
+fn read_lines(s: &[u8], t: &mut [u64], ls: &mut [u64], c: Cursor, names: u64, lines: usize) -> Step
+    requires { ⌜ (Ready (now s) (now t) c names) × (lines ≤ length (now ls)) ⌝ }
+    ensures { λ r. ⌜ LinesRead names lines (now (s .entry)) (now (t .exit)) (now (ls .exit)) c r ⌝ }
+{
+    let mut d = c;
+    let mut k: usize = 0;
+    while k < lines {
+        let r = nodes::read_list(s, t, d, names, MOST_DEPTH);
+        let Step::Next(count, e) = r else {
+            return r;
+        };
+        let w = count + 64 * (d.nodes as u64);
+        ls[k] = w;
+        d = e;
+        k += 1;
+    }
+    Step::Next(0, d)
+}
+
+// Form, lines and names. A step answers one number: here lines and names, each below 256.
+fn read_head(s: &[u8]) -> Step
+    requires { ⌜ length (now s) ≤ mostBytes ⌝ }
+    ensures { λ r. ⌜ HeadRead (now (s .entry)) r ⌝ }
+{
+    let c = Cursor {
+        pos: 0,
+        nodes: 0,
+        statements: 0,
+        sections: 0,
+        strings: 0,
+        chars: 0,
+    };
+    let r = bits::take(s, c, HEAD_BITS);
+    let Step::Next(form, c1) = r else {
+        return r;
+    };
+    if form != FORM {
+        return Step::Refused(OTHER_FORM);
+    }
+    let r1 = bits::take(s, c1, HEAD_BITS);
+    let Step::Next(lines, c2) = r1 else {
+        return r1;
+    };
+    if lines == 0 {
+        return Step::Refused(ZERO_LINES);
+    }
+    let r2 = bits::take(s, c2, NAME_BITS);
+    let Step::Next(names, c3) = r2 else {
+        return r2;
+    };
+    Step::Next(lines + HEAD_VALUES * names, c3)
+}
+
+// The file, behind the test of its length; answers what its head does.
+fn read_file(s: &[u8], t: &mut [u64], ls: &mut [u64]) -> Step
+    requires { ⌜ (length (now s) ≤ mostBytes) × ((mostNodes ≤ length (now t)) × (mostLines ≤ length (now ls))) ⌝ }
+    ensures { λ r. ⌜ FileRead (now (s .entry)) (now (t .exit)) (now (ls .exit)) r ⌝ }
+{
+    let r = read_head(s);
+    let Step::Next(head, c) = r else {
+        return r;
+    };
+    let lines = head % HEAD_VALUES;
+    let names = head / HEAD_VALUES;
+    let r1 = names::read_names(s, c, names as usize);
+    let Step::Next(_, c1) = r1 else {
+        return r1;
+    };
+    let r2 = read_lines(s, t, ls, c1, names, lines as usize);
+    let Step::Next(_, c2) = r2 else {
+        return r2;
+    };
+    let r3 = fill(s, c2);
+    let Step::Next(_, c3) = r3 else {
+        return r3;
+    };
+    Step::Next(head, c3)
+}
+
+// The tree of a file in lent tables, and its size; or the number that refuses it.
+pub fn read_tree(s: &[u8], t: &mut [u64], ls: &mut [u64]) -> SizeAnswer
+    requires { ⌜ (mostNodes ≤ length (now t)) × (mostLines ≤ length (now ls)) ⌝ }
+    ensures { λ r. ⌜ TreeRead (now (s .entry)) (now (t .exit)) (now (ls .exit)) r ⌝ }
+{
+    if s.len() > MOST_BYTES {
+        return SizeAnswer::Refused(TOO_LONG);
+    }
+    let r = read_file(s, t, ls);
+    match r {
+        Step::Next(v, c) => SizeAnswer::Sized(Sizes {
+            lines: v % HEAD_VALUES,
+            names: v / HEAD_VALUES,
+            statements: c.statements,
+            nodes: c.nodes,
+            strings: c.strings,
+            characters: c.chars,
+        }),
+        Step::Refused(n) => SizeAnswer::Refused(n),
+    }
+}
+
+// What a file's tree counts, or the number that refuses it.
+pub fn size(bytes: &[u8]) -> SizeAnswer
+    ensures { λ r. ⌜ sizeRes r ≡ sizeS (now (bytes .entry)) ⌝ }
+{
+    let mut t = [0u64; MOST_NODES];
+    let mut ls = [0u64; MOST_LINES];
+    read_tree(bytes, &mut t, &mut ls)
+}

@@ -1,0 +1,180 @@
+//! The static library beside the judge: the same inputs to both, and every lent word compared.
+//! Usage: compare SEED FILES MACHINES, or compare big for the time of the largest machines
+
+mod big;
+mod library;
+
+use oracle::generate::machines::{self, Case};
+use oracle::generate::{damaged, trees};
+use oracle::judge::{self, Answer, Op};
+use oracle::rng::Rng;
+use std::process::ExitCode;
+
+/// Stands in every lent word before a call.
+const GUARD: u64 = 0x5a5a_5a5a_5a5a_5a5a;
+
+/// What a kind of call has shown so far.
+struct Tally {
+    name: &'static str,
+    cases: u64,
+    refused: u64,
+    different: u64,
+}
+
+impl Tally {
+    fn new(name: &'static str) -> Self {
+        Tally { name, cases: 0, refused: 0, different: 0 }
+    }
+
+    fn count(&mut self, refused: bool, same: bool, input: &dyn Fn() -> String) {
+        self.cases += 1;
+        self.refused += u64::from(refused);
+        if !same {
+            self.different += 1;
+            println!("DIFFERENT {}: {}", self.name, input());
+        }
+    }
+
+    fn print(&self) {
+        println!("{}: {} cases, {} refused, {} different", self.name, self.cases, self.refused, self.different);
+    }
+}
+
+/// Files in batches, so that the longest runs need no more memory than the shortest.
+const A_BATCH: usize = 5_000;
+
+/// The largest files of most batches; one batch in twenty has files of any length.
+const USUAL_BYTES: usize = 600;
+
+/// The judge's answer and the lent numbers afterwards.
+fn expected_size(file: &[u8], lent: &[u64]) -> (u64, Vec<u64>) {
+    let mut after = lent.to_vec();
+    if lent.len() < 6 {
+        return (11, after);
+    }
+    match judge::size(file) {
+        Answer::Refused(n) => (n.into(), after),
+        Answer::Panic => panic!("size is the judge's own"),
+        Answer::Done(z) => {
+            let row = [z.lines, z.names, z.statements, z.nodes, z.strings, z.characters];
+            for (word, n) in after.iter_mut().zip(row) {
+                *word = n as u64;
+            }
+            (0, after)
+        }
+    }
+}
+
+fn compare_size(tally: &mut Tally, rng: &mut Rng, file: &[u8]) {
+    // mostly room for six and some words more, now and then too little
+    let room = if rng.chance(5) { rng.below(6) } else { 6 + rng.below(3) };
+    let lent = vec![GUARD; room];
+    let (number, after) = expected_size(file, &lent);
+    let mut words = lent;
+    let got = library::size(file, &mut words);
+    tally.count(number != 0, got == number && words == after, &|| oracle::bits::hex(file));
+}
+
+fn compare_files(seed: u64, count: usize) -> Vec<Tally> {
+    let mut sizes = Tally::new("size");
+    let mut rng = Rng::new(seed);
+    let mut done = 0;
+    let mut batch = 0;
+    while done < count {
+        let most = if batch % 20 == 0 { 40_000 } else { USUAL_BYTES };
+        let part = A_BATCH.min(count - done);
+        let seed = seed.wrapping_mul(1_000_003).wrapping_add(batch);
+        let files = if batch % 2 == 0 { trees::files(seed, part, most) } else { damaged::files(seed, part, most) };
+        for file in files {
+            compare_size(&mut sizes, &mut rng, &file);
+        }
+        done += part;
+        batch += 1;
+    }
+    vec![sizes]
+}
+
+/// The lent counts: eight and a guard behind them.
+fn lent_counts(case: &Case) -> Vec<u64> {
+    case.1.row().iter().map(|&n| n as u64).chain([GUARD]).collect()
+}
+
+fn compare_change(tally: &mut Tally, case: &Case) {
+    let lent = lent_counts(case);
+    let (answer, tables) = judge::change(case.0, &case.1, &case.2);
+    let (number, after) = match answer {
+        Answer::Refused(n) => (n.into(), lent.clone()),
+        Answer::Done(counts) => (0, counts.row().iter().map(|&n| n as u64).chain([GUARD]).collect()),
+        // no answer of document 01: the judge has none to hold the library to
+        Answer::Panic => panic!("yogi panics: {}", oracle::line::print(&case.1, &case.2)),
+    };
+    let mut words = lent;
+    let mut got_tables = case.2.clone();
+    let got = library::change(case.0, &mut words, &mut got_tables);
+    let same = got == number && words == after && got_tables == tables;
+    tally.count(number != 0, same, &|| oracle::line::print(&case.1, &case.2));
+}
+
+/// Too few counts are 11 before all else, and nothing is written.
+fn compare_short(tally: &mut Tally, rng: &mut Rng, case: &Case) {
+    let mut words = lent_counts(case);
+    words.truncate(rng.below(8));
+    let before = words.clone();
+    let mut tables = case.2.clone();
+    let got = library::change(case.0, &mut words, &mut tables);
+    let same = got == 11 && words == before && tables == case.2;
+    tally.count(true, same, &|| oracle::line::print(&case.1, &case.2));
+}
+
+fn compare_text(tally: &mut Tally, rng: &mut Rng, case: &Case) {
+    let (strings, pool) = (&case.2.strings, &case.2.pool);
+    let register = if rng.chance(10) { rng.next() } else { rng.below(strings.len() + 2) as u64 };
+    let (start, length) = if register > 65_535 { (pool.len(), 0) } else { judge::text(strings, pool, register as usize) };
+    let got = library::text(strings, pool, register);
+    let same = got == (start as u64, length as u64);
+    tally.count(false, same, &|| format!("{register} {}", oracle::line::print(&case.1, &case.2)));
+}
+
+fn compare_machines(seed: u64, count: usize) -> Vec<Tally> {
+    let mut tallies: Vec<Tally> = Op::ALL.iter().map(|op| Tally::new(op.name())).collect();
+    let (mut short, mut text) = (Tally::new("too few counts"), Tally::new("text"));
+    let mut rng = Rng::new(seed);
+    let mut done = 0;
+    let mut batch = 0;
+    while done < count {
+        // tables of 65,535 words and more come in one batch of forty
+        let most = if batch % 40 == 0 { usize::MAX } else { 200 };
+        let part = (A_BATCH / 5).min(count - done);
+        let seed = seed.wrapping_mul(1_000_033).wrapping_add(batch);
+        for case in machines::cases(seed, part, most) {
+            compare_change(&mut tallies[case.0 as usize], &case);
+            compare_text(&mut text, &mut rng, &case);
+            if rng.chance(5) {
+                compare_short(&mut short, &mut rng, &case);
+            }
+        }
+        done += part;
+        batch += 1;
+    }
+    tallies.extend([short, text]);
+    tallies
+}
+
+fn main() -> ExitCode {
+    if std::env::args().nth(1).as_deref() == Some("big") {
+        big::run();
+        return ExitCode::SUCCESS;
+    }
+    let args: Vec<u64> = std::env::args().skip(1).filter_map(|a| a.parse().ok()).collect();
+    let [seed, files, machines] = args[..] else {
+        eprintln!("usage: compare SEED FILES MACHINES, or compare big");
+        return ExitCode::from(2);
+    };
+    judge::hush_yogi();
+    let mut tallies = compare_files(seed, files as usize);
+    tallies.extend(compare_machines(seed, machines as usize));
+    tallies.iter().for_each(Tally::print);
+    let different: u64 = tallies.iter().map(|t| t.different).sum();
+    println!("{different} differences");
+    ExitCode::from(u8::from(different != 0))
+}
