@@ -5,4 +5,3 @@ pub mod Texts
 pub mod InPlace
 pub mod Read
 pub mod Change
-pub mod Back
