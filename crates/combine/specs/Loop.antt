@@ -22,11 +22,12 @@ use Rattle.join.specs.Joins.{join-holds}
 use Rattle.combine.specs.Kept.{Forward, Low, low-join, forward-join}
 use Rattle.combine.specs.Pairs.{forward, to-pair, pair-up, low-none, low-pair, low-more, fuel-join, fuel-none}
 
--- the tables hold the sections ss, of which there are r, with as many instructions as before
+-- the tables hold the sections ss, of which there are r, no more than before, with as many instructions
 pub record Combined (s i s′ i′ : List ℕ) (n e : ℕ) (ss : List SectionCode) (r : ℕ) : Type 0 where
   pub tables : Changed s i s′ i′ n e ss
   pub count : r ≡ length ss
   pub code : e ≡ length (allCode ss)
+  pub fewer : r ≤ n
 
 -- `left` sections ss are left of the n in s and i, none below s1 may take its successor in, and combining them is combining all
 pub record Going (s i : List ℕ) (n e : ℕ) (s′ i′ : List ℕ) (left s1 : ℕ) : Type 0 where
@@ -41,7 +42,7 @@ pub record Going (s i : List ℕ) (n e : ℕ) (s′ i′ : List ℕ) (left s1 : 
 
 -- ---- tables changed twice
 
-put-twice : (n k : ℕ) (ws us t : List ℕ) → length us ≡ k → length ws ≤ k → k ≤ n → put 0 k ws (put 0 n us t) ≡ put 0 n ws t
+pub put-twice : (n k : ℕ) (ws us t : List ℕ) → length us ≡ k → length ws ≤ k → k ≤ n → put 0 k ws (put 0 n us t) ≡ put 0 n ws t
 unfolding put
 put-twice n k ws us t h l m =
     let a : max k (length ws) ≡ k = max-eq-left l in
@@ -99,7 +100,7 @@ module _ (s i : List ℕ) (n e : ℕ) (s′ i′ : List ℕ) (left s1 : ℕ) (g 
       let q : s1 ≡ length (g .ss) = omega arith in
       let p = low-none (g .ss) (subst (Low (g .ss)) q (g .low)) in
       let r : g .ss ≡ combineSections (held s i n e) = sym (fuel-none (g .ss) left p) ∙ g .rest in
-      subst (λ (x : List SectionCode). Combined s i s′ i′ n e x left) r (record { tables = g .changed; count = sym z; code = sym (g .holds .code) })
+      subst (λ (x : List SectionCode). Combined s i s′ i′ n e x left) r (record { tables = g .changed; count = sym z; code = sym (g .holds .code); fewer = g .fewer })
 
   module _ (h : s1 < left) where
     pub going-on : none ≡ mate (held s′ i′ left e) s1 (getD (held s′ i′ left e) s1 absent .success) → Going s i n e s′ i′ left (s1 + 1)

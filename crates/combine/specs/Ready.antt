@@ -1,27 +1,31 @@
 -- A machine that keeps the rules and that combine does not refuse, in tables: what `combine_all` asks holds, and what the words hold is the
--- machine. So a caller that has written such a machine needs no check. Assumes nothing.
-use mathlib.Core.Path.{_≡_, refl}
+-- machine: `ready`. What the tables are afterwards: `written-over`. So a caller that has written such a machine needs no check. Assumes nothing.
+use mathlib.Core.Path.{_≡_, refl, sym, ap, _∙_}
 use mathlib.Core.Bool.{Bool, true, false}
 use mathlib.Core.Option.{Option, none, some}
-use mathlib.Core.List.{List, [], _∷_, map}
-use Prim.Native.Nat.{ℕ, suc}
+use mathlib.Core.List.{List, [], _∷_, _++_, map}
+use Prim.Native.Nat.{ℕ, suc, _-_, _≤_, max}
 use native.Mathlib.Omega.{arith}
-use lib.ListN.{length, take}
+use native.Mathlib.Nat.{max-eq-left}
+use lib.ListN.{length, take, drop, replicate, length-map}
+use lib.Seq.{drop-at}
 use Rattle.rules.specs.Bits.{Res, refused, ok}
 use Rattle.rules.specs.Instr.{Instruction, Kind, kinds}
 use Rattle.rules.specs.Refusal as Refusal
 use Rattle.rules.specs.Word.{insWord}
 use Rattle.rules.specs.Machine.{SectionOrLine, unfixed, section, line, SectionCode, Machine}
 use Rattle.rules.specs.Tables.{Tables, Counts, all, runWords, allCode, countsOf}
-use Rattle.rules.specs.Operations.{fixedHere, allAhead, combineIn}
+use Rattle.rules.specs.Operations.{put, fixedHere, allAhead, combineIn}
 use Rattle.rules.specs.Combine.{combined}
 use Rattle.rules.specs.Demand.{All}
 use Rattle.laws.specs.Words.{InsSmall}
 use Rattle.walks.specs.Fits.{Held, Counted, SectFit, NextFit, AllAt, MachineFit, op-small, field-small}
 use Rattle.tables.specs.Runs.{held}
+use Rattle.tables.proofs.Read.{words-length}
 use Rattle.join.specs.Held.{NextSmall, SectSmall, Holds, Sound}
 use Rattle.join.specs.Reads.{sound, holds-held}
 use Rattle.join.specs.Small.{all-left, all-right}
+use Rattle.combine.specs.Loop.{Combined, put-twice}
 
 -- ---- what keeps the rules fits its fields
 module _ (u : Counts) (c : Counted u) where
@@ -96,3 +100,25 @@ module _ (m : Machine) (f : MachineFit m) (s i : List ℕ) (n e : ℕ) (hn : len
         ahead = rw h (no-refusal m r l a);
         held = h;
       }
+
+-- ---- written over what was written
+
+-- as many words over as many
+put-over : (n k : ℕ) (ws us t : List ℕ) → length us ≡ k → length ws ≡ k → k ≤ n → ws ++ drop k (put 0 n us t) ≡ put 0 n ws t
+unfolding put
+put-over n k ws us t h l m =
+    let a : max n k ≡ n = max-eq-left m in
+    rw (drop-at us (replicate (n - length us) 0 ++ drop (max n (length us)) t) k h, h, l, a)
+
+-- the tables s and i were written over s₀ and i₀, with zeros up to n₀ and e₀; combined, they are as if written over them at once
+pub record Written (s₀ i₀ s i : List ℕ) (n e : ℕ) (ss : List SectionCode) : Type 0 where
+  pub sections : s ≡ put 0 n (runWords 0 ss) s₀
+  pub instrs : i ≡ put 0 e (map insWord (allCode ss)) i₀
+
+pub written-over : (s₀ i₀ s i s′ i′ : List ℕ) (n₀ e₀ n e r : ℕ) (ss ts : List SectionCode) → Written s₀ i₀ s i n₀ e₀ ss → length ss ≡ n → length (allCode ss) ≡ e → n ≤ n₀ → e ≤ e₀ → Combined s i s′ i′ n e ts r → Written s₀ i₀ s′ i′ n₀ e₀ ts
+written-over s₀ i₀ s i s′ i′ n₀ e₀ n e r ss ts w hn he ln le c =
+    let few : length (runWords 0 ts) ≤ n = omega (arith, words-length 0 ts, c .count, c .fewer) in
+    record {
+      sections = c .tables .sections ∙ (ap (put 0 n (runWords 0 ts)) (w .sections) ∙ put-twice n₀ n (runWords 0 ts) (runWords 0 ss) s₀ (words-length 0 ss ∙ hn) few ln);
+      instrs = c .tables .instrs ∙ (ap (λ (x : List ℕ). map insWord (allCode ts) ++ drop e x) (w .instrs) ∙ put-over e₀ e (map insWord (allCode ts)) (map insWord (allCode ss)) i₀ (length-map (allCode ss) insWord ∙ he) (length-map (allCode ts) insWord ∙ sym (c .code)) le);
+    }

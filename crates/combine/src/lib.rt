@@ -2,10 +2,11 @@
 // goes through the sections, lowest first, and joins each section's successor to it while it may.
 //
 // `combine_all` is shown equal to `combineSections` of `rules`. It asks that the words hold a machine without links back, runs end to end.
-// After a join the search goes on where it stands, since none that was passed may take its successor in by it. So it tries at most as
-// often as there are sections, and a try reads each word once and a join touches it three times: a call touches at most
-// 4 × sections × (sections + instructions) words, and six more a section. `combine` is shown equal to `combine` of `rules`, and asks
-// nothing; it reads the words of all tables once more.
+// After a join the search goes on where it stands, since a join lets no section before S1 take its successor in. So it tries at most as
+// often as there are sections; a try reads each word once, a join touches each three times. A call touches at most
+// 4 × sections × (sections + instructions) words, and six more a section.
+//
+// `combine` is shown equal to `combine` of `rules`, and asks nothing. Before the pass it reads each word at most four times.
 pub mod references;
 pub mod refusals;
 pub mod search;

@@ -1,8 +1,7 @@
 // Joining two sections in the words of a machine: S2's run is put behind S1's, S2's word goes, and every target above S2 falls.
 //
 // `combine_sections` is shown equal to `combineAt` of `rules`. It asks that the words hold a machine, runs end to end, and that S2 stands
-// above S1. It touches
-// each section word and each instruction word at most three times, and three section words once more.
+// above S1. It touches each section word and each instruction word at most three times, and three section words once more.
 pub mod instructions;
 pub mod sections;
 
