@@ -131,4 +131,3 @@ pub chars-length : (s : List ℕ) (n p : ℕ) → length (charsAt s n p) ≡ n
 unfolding charsAt
 chars-length s zero p = refl
 chars-length s (suc n) p = ap suc (chars-length s n (p + 7))
-

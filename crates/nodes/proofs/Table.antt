@@ -53,7 +53,6 @@ moved a (at-ident {i = i} x l w k) = at-ident x l (a .same i (omega arith) (omeg
 moved a (at-number {i = i} p z l w k q) = at-number p z l (a .same i (omega arith) (omega arith) ∙ w) k q
 moved a (at-string {i = i} n p x l w y k q) = at-string n p x l (a .same i (omega arith) (omega arith) ∙ w) y k q
 
-
 pub grows-b : {t s : List ℕ} {m n i j : ℕ} {x : Block} → HoldsB t s m n i x j → i ≤ j
 grows-b (at-end z e) = omega arith
 grows-b (at-goto p w q e xs) = let a = grows e in let b = grows-b xs in omega arith

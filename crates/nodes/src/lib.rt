@@ -14,8 +14,8 @@ ghost use Rattle.nodes.specs.Width.{orOne};
 ghost use Rattle.nodes.specs.Builds.{Ready, Begun, BegunStmt, Closed, Spans, Builds, before, beforeStmt, joined, heldE, countE, heldF, countF, flagR, leafR, heldS, countS, ReadsExpr, ReadsStmt, ReadsList};
 use bits::Cursor;
 use bits::Step;
-use bits::limits::ASSIGNOPS;
 use bits::limits::ASSIGN_BITS;
+use bits::limits::ASSIGNOPS;
 use bits::limits::BINOPS;
 use bits::limits::EXPR_KIND_BITS;
 use bits::limits::FLAG_BITS;
@@ -49,7 +49,10 @@ fn word(kind: u64, op: u64, name: u64, pos: usize, last: usize, width: usize) ->
     requires { ⌜ (kind < 16) × (op < 16) × (name < 256) × (pos < 524288) × (last < 4096) × (width < 8192) ⌝ }
     ensures { λ r. ⌜ r ≡ wordOf kind op name pos last width ⌝ }
 {
-    kind + 16 * (op + 16 * (name + 256 * (pos as u64 + 524288 * (width as u64 + 8192 * (last as u64)))))
+    kind
+        + 16
+            * (op
+                + 16 * (name + 256 * (pos as u64 + 524288 * (width as u64 + 8192 * (last as u64)))))
 }
 
 // Node i is done: its word is written, now that the node behind it is known.
