@@ -242,3 +242,8 @@ pub incdec-small : (i : Bool) (o : ℕ) → o ≡ incdecOp i → o < 64
 unfolding incdecOp
 incdec-small true o e = omega arith
 incdec-small false o e = omega arith
+
+-- the same of a table and a place that are known by equations
+pub stored : {n : ℕ} {c : Counters} {is : List ℕ} {ns : List ℤ} {ss ps ps' ms : List ℕ} (x : List ℕ) {h k w : ℕ} → k ≡ c .strings → h ≡ length x → w ≡ spanWord (record { start = c .chars; size = h }) → ps' ≡ sets ps (c .chars) x
+    → Does n (newStr x) c (lent is ns ss ps ms) (lent is ns (set ss k w) ps' ms) (c .strings) (plus-string h c)
+stored x e q w f = rw (e, f) (lettered x q w)
