@@ -49,7 +49,13 @@ fn signed(v: u64) -> i64
 }
 
 // A number of the file as a value.
-fn codegen_from_number(s: &[u8], instrs: &mut [u64], numbers: &mut [i64], c: Counters, p: usize) -> GotVal
+fn codegen_from_number(
+    s: &[u8],
+    instrs: &mut [u64],
+    numbers: &mut [i64],
+    c: Counters,
+    p: usize,
+) -> GotVal
     requires { ⌜ NumberAt (now s) p × Room c 1 1 1 (length (now instrs)) (length (now numbers)) ⌝ }
     ensures spent { λ a. ⌜ Spent c (a .next) 1 1 1 0 0 ⌝ }
     ensures does { λ a. ⌜ DoesBoth (newNum (signedS (spelled (now (s .entry)) numberBits p)) ▷ λ n. makeVal Op.ValueifyNum n) c (now (instrs .entry)) (now (instrs .exit)) (now (numbers .entry)) (now (numbers .exit)) (a .reg .0) (a .next) ⌝ }
