@@ -1,0 +1,2 @@
+// Lowering of statements.
+pub mod own;
