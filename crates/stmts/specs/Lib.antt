@@ -1,2 +1,3 @@
-pub mod Own
 pub mod Told
+pub mod Own
+pub mod Makes

@@ -1,2 +1,3 @@
 // Lowering of statements.
 pub mod own;
+pub mod sections;

@@ -14,7 +14,7 @@ ghost use Rattle.nodes.specs.Holds.{HoldsE};
 ghost use Rattle.codegen.specs.Does.{lent, DoesBoth};
 ghost use Rattle.codegen.specs.Costs.{Spent, Room, guardCost};
 ghost use Rattle.stmts.specs.Told.{assignTold, assignCost};
-ghost use Rattle.stmts.specs.Own.{Holding, LowersTo};
+ghost use Rattle.stmts.specs.Own.{Holding, Setting, LowersTo};
 use codegen::operators::make_arith_binop;
 use codegen::operators::make_truthy;
 use codegen::operators::numberify;
@@ -111,7 +111,7 @@ pub fn codegen_from_assign(
     x: usize,
     op: u64,
 ) -> Counters
-    requires { ⌜ Holding (now s) (now nodes) i c 8 2 2 (length (now instrs)) (length (now numbers)) (length (now strings)) (length (now pool)) (length (now names)) × (x < length (now names)) × (op < 7) ⌝ }
+    requires { ⌜ Setting (now s) (now nodes) i c x (length (now instrs)) (length (now numbers)) (length (now strings)) (length (now pool)) (length (now names)) × (op < 7) ⌝ }
     ensures { λ r. ⌜ ((m : ℕ) (e : Tree.Expr) (j : ℕ) → m ≤ 256 → x < m → HoldsE (now (nodes .entry)) (now (s .entry)) m i e j → LowersTo (codegenFromAssign x (getD assignops op Tree.PowTo) e) m e (assignCost (getD assignops op Tree.PowTo)) 2 2 c (lent (now (instrs .entry)) (now (numbers .entry)) (now (strings .entry)) (now (pool .entry)) (now (names .entry))) (lent (now (instrs .exit)) (now (numbers .exit)) (now (strings .exit)) (now (pool .exit)) (now (names .exit))) 0 r) ⌝ }
 {
     let e = codegen_from_expr(s, nodes, instrs, numbers, strings, pool, names, i, c);

@@ -20,26 +20,26 @@ codegen-from-expr-requires c κs = search needs
 -- src/own.rt:104:9
 get-variable-requires : tie.Need-get-variable-requires
 get-variable-requires c κs =
-    let p = c .before .before .before .before .before .before .before .before .before .before .before .before .before .before .before .before .before .before .before .before .before .before .pre .0 in
+    let p = c .before .before .before .before .before .before .before .before .before .before .before .before .before .before .before .before .before .before .before .before .before .before .pre .0 .holding in
     let f = p .fits in
     let o = p .room in
     let r = c .before .before .before .before .before .before .before .before .before .before .codegen-from-expr .ensures _ _ _ (p .few) (p .held) .spent in
     let k0 = c .before .before .before .before .before .before .before .before .before .before .codegen-from-expr .kept .1 .1 .0 in
     let k1 = c .before .before .before .before .before .before .before .before .before .before .codegen-from-expr .kept .1 .1 .1 .0 in
     let z = expr-most (p .tree) in
-    let y = c .before .before .before .before .before .before .before .before .before .before .before .before .before .before .before .before .before .before .before .before .before .before .pre .1 in
+    let y = c .before .before .before .before .before .before .before .before .before .before .before .before .before .before .before .before .before .before .before .before .before .before .pre .0 .known in
     let k4 = c .before .before .before .before .before .before .before .before .before .before .codegen-from-expr .kept .1 .1 .1 .1 .1 .1 .0 in
     (omega arith, omega arith)
 
 -- src/own.rt:105:40
 assignop-of-requires : tie.Need-assignop-of-requires
 assignop-of-requires c κs =
-    c .before .before .before .before .before .before .before .before .before .before .before .before .before .before .before .before .before .before .before .before .before .before .before .before .before .before .before .pre .2
+    c .before .before .before .before .before .before .before .before .before .before .before .before .before .before .before .before .before .before .before .before .before .before .before .before .before .before .before .pre .1
 
 -- src/own.rt:105:5
 assign-by-requires : tie.Need-assign-by-requires
 assign-by-requires c κs =
-    let p = c .before .before .before .before .before .before .before .before .before .before .before .before .before .before .before .before .before .before .before .before .before .before .before .before .before .before .before .before .pre .0 in
+    let p = c .before .before .before .before .before .before .before .before .before .before .before .before .before .before .before .before .before .before .before .before .before .before .before .before .before .before .before .before .pre .0 .holding in
     let f = p .fits in
     let o = p .room in
     let r = c .before .before .before .before .before .before .before .before .before .before .before .before .before .before .before .before .codegen-from-expr .ensures _ _ _ (p .few) (p .held) .spent in
