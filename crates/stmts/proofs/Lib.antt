@@ -1,2 +1,3 @@
 pub mod Forms
 pub mod Makes
+pub mod Lists
