@@ -1,3 +1,4 @@
 pub mod Forms
 pub mod Makes
 pub mod Lists
+pub mod Splits

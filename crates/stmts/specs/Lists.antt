@@ -1,8 +1,9 @@
 -- What lowering a list of statements gives: its sections in the tables, one behind the other.
 use mathlib.Core.Path.{_≡_}
-use mathlib.Core.Bool.{Bool, true, false}
+use mathlib.Core.Bool.{Bool, true, false, cond}
+use lib.Dec.{eqb}
 use mathlib.Core.List.{List, [], _∷_, _++_, map}
-use Prim.Native.Nat.{ℕ, zero, suc, _+_, _*_, _≤_, _<_, max}
+use Prim.Native.Nat.{ℕ, zero, suc, _+_, _*_, _/_, _%_, _≤_, _<_, max}
 use lib.ListN.{length}
 use lib.Seq.{sets}
 use Rattle.rules.specs.Constants.{mostBytes}
@@ -11,10 +12,11 @@ use Rattle.rules.specs.Tree.{Block, end, ite, assign, Tally, ofBlock}
 use Rattle.rules.specs.Machine.{SectionCode}
 use Rattle.rules.specs.Tables.{runWords, allCode}
 use Rattle.rules.specs.Script.{Stmts, nil, plain}
-use Rattle.rules.specs.Assemble.{stmtSections}
+use Rattle.rules.specs.Assemble.{stmtSections, orEmpty}
 use Rattle.rules.specs.CodegenData.{CodegenData, Lower, pure, _>>=_, scoped}
 use Rattle.rules.specs.Operators.{codegenIncdec}
 use Rattle.rules.specs.Annotate.{lineNumber, condition, codegenFromAssign, annotateStmts}
+use Rattle.nodes.specs.Words.{iteKind, gotoKind}
 use Rattle.nodes.specs.Width.{width}
 use Rattle.nodes.specs.Holds.{HoldsB}
 use Rattle.codegen.specs.declared.state.Counters.{Counters}
@@ -30,22 +32,13 @@ pub record Wrote (ss : List SectionCode) (n k k' : ℕ) (is is' se se' : List �
 
 -- ---- the first statement of a list, and the others
 
-unfoldable pub first : Block → Lower Stmts
-first end = pure nil
-first (Block.goto e xs) = do
-  (c, n) ← scoped (lineNumber e)
-  pure (Stmts.goto c n nil)
-first (ite c t f xs) = do
-  (i, n) ← scoped (condition c)
-  t₁ ← annotateStmts t
-  f₁ ← annotateStmts f
-  pure (Stmts.ite i n t₁ f₁ nil)
-first (Block.incdec i x xs) = do
-  (c, n) ← scoped (codegenIncdec i x)
-  pure (plain c nil)
-first (assign x o e xs) = do
-  (c, n) ← scoped (codegenFromAssign x o e)
-  pure (plain c nil)
+-- the list of the first alone
+unfoldable pub only : Block → Block
+only end = end
+only (Block.goto e xs) = Block.goto e end
+only (ite c t f xs) = ite c t f end
+only (Block.incdec i x xs) = Block.incdec i x end
+only (assign x o e xs) = assign x o e end
 
 unfoldable pub rest : Block → Block
 rest end = end
@@ -68,9 +61,106 @@ onward l (plain c z) = l
 onward l (Stmts.goto c r z) = false
 onward l (Stmts.ite c r t f z) = l
 
--- is the list the only statement?
+-- the same of a list of the tree: behind its first statement
+abbrev pub onwardB : Bool → Block → Bool
+onwardB l end = l
+onwardB l (Block.goto e xs) = false
+onwardB l (ite c t f xs) = l
+onwardB l (Block.incdec i x xs) = l
+onwardB l (assign x o e xs) = l
+
+abbrev pub isEnd : Block → Bool
+isEnd end = true
+isEnd (Block.goto e xs) = false
+isEnd (ite c t f xs) = false
+isEnd (Block.incdec i x xs) = false
+isEnd (assign x o e xs) = false
+
+-- is it one statement?
 abbrev pub Single : Stmts → Type 0
 Single nil = ⊥
 Single (plain c z) = z ≡ nil
 Single (Stmts.goto c r z) = z ≡ nil
 Single (Stmts.ite c r t f z) = z ≡ nil
+
+-- ---- contracts
+
+-- a list's sections from number n on, left to k; l: it is linked
+pub record Listed (m e : ℕ) (l : Bool) (n k : ℕ) (b : Lent) (c : Counters) (t t' : Lent) (se se' : List ℕ) (c' : Counters) (p : Stmts × CodegenData) : Type 0 where
+  pub regs : Regs m e b c' t' (p .1)
+  pub wrote : Wrote (stmtSections l e n k (p .0)) n (c .at) (c' .at) (t .instrs) (t' .instrs) se se'
+
+pub record Lists (m : ℕ) (x : Block) (l : Bool) (n k : ℕ) (c : Counters) (t t' : Lent) (se se' : List ℕ) (c' : Counters) : Type 0 where
+  pub from : (e : ℕ) (b : Lent) (g : CodegenData) → Regs m e b c t g → Listed m e l n k b c t t' se se' c' (annotateStmts x g)
+
+-- the same of an Ite's list, which makes a section even where it is empty; j is the join
+pub record Branched (m e : ℕ) (n j : ℕ) (b : Lent) (c : Counters) (t t' : Lent) (se se' : List ℕ) (c' : Counters) (p : Stmts × CodegenData) : Type 0 where
+  pub regs : Regs m e b c' t' (p .1)
+  pub wrote : Wrote (orEmpty (p .0) j (stmtSections true e n j (p .0))) n (c .at) (c' .at) (t .instrs) (t' .instrs) se se'
+
+pub record Branch (m : ℕ) (x : Block) (n j : ℕ) (c : Counters) (t t' : Lent) (se se' : List ℕ) (c' : Counters) : Type 0 where
+  pub from : (e : ℕ) (b : Lent) (g : CodegenData) → Regs m e b c t g → Branched m e n j b c t t' se se' c' (annotateStmts x g)
+
+-- ---- what the functions ask and give
+
+-- how deep its Ites are nested
+unfoldable pub deep : Block → ℕ
+deep end = 0
+deep (Block.goto e xs) = deep xs
+deep (ite c t f xs) = max (suc (max (deep t) (deep f))) (deep xs)
+deep (Block.incdec i x xs) = deep xs
+deep (assign x o e xs) = deep xs
+
+-- there is room for a part of the tree that counts k and makes w sections, the first with number j; n names are in their table
+pub record Ample (k : Tally) (w n j : ℕ) (c : Counters) (il nl sl pl ml zl : ℕ) : Type 0 where
+  pub room : Room c (9 * k .nodes) (2 * k .nodes) (3 * k .nodes) il nl
+  pub strings : c .strings + k .strings ≤ sl
+  pub strings-fit : c .strings + k .strings ≤ 65535
+  pub chars : c .chars + k .characters ≤ pl
+  pub chars-fit : c .chars + k .characters ≤ 65535
+  pub names : n ≤ ml
+  pub sections : j + w ≤ zl
+  pub sections-fit : j + w ≤ 65535
+  pub small : il < 65536
+
+-- a list of `count` statements is held at node i, nested no deeper than `depth`, and there is room for it
+pub record ListReady (s t : List ℕ) (i count depth j : ℕ) (c : Counters) (il nl sl pl ml zl : ℕ) : Type 0 where
+  pub known : ℕ
+  pub block : Block
+  pub last : ℕ
+  pub held : HoldsB t s known count i block last
+  pub inside : last ≤ length t
+  pub short : length s ≤ mostBytes
+  pub few : known ≤ 256
+  pub shallow : deep block ≤ depth
+  pub ample : Ample (ofBlock block) (width block) known j c il nl sl pl ml zl
+
+-- what was counted
+pub record SpentAll (k : Tally) (c c' : Counters) : Type 0 where
+  pub at : c' .at ≤ c .at + 9 * k .nodes
+  pub numbers : c' .numbers ≤ c .numbers + 2 * k .nodes
+  pub values : c' .values ≤ c .values + 3 * k .nodes
+  pub strings : c' .strings ≡ c .strings + k .strings
+  pub chars : c' .chars ≡ c .chars + k .characters
+
+-- the list x is lowered, and its nodes end at z
+pub record ListDone (m : ℕ) (x : Block) (z : ℕ) (l : Bool) (n k : ℕ) (c : Counters) (t t' : Lent) (se se' : List ℕ) (c' : Counters) (node : ℕ) : Type 0 where
+  pub does : Lists m x l n k c t t' se se' c'
+  pub spent : SpentAll (ofBlock x) c c'
+  pub node-is : node ≡ z
+
+pub record BranchDone (m : ℕ) (x : Block) (z : ℕ) (n j : ℕ) (c : Counters) (t t' : Lent) (se se' : List ℕ) (c' : Counters) (node : ℕ) : Type 0 where
+  pub does : Branch m x n j c t t' se se' c'
+  pub spent : SpentAll (ofBlock x) c c'
+  pub node-is : node ≡ z
+
+-- the sections of a statement, by its node's word; and whether what stands behind it is linked
+unfoldable pub madeBy : ℕ → ℕ
+madeBy w = cond (eqb (w % 16) iteKind) (2 + w / 34359738368 % 8192 + w / 65536 % 524288 / 64) 1
+
+unfoldable pub linkedBy : ℕ → Bool → Bool
+linkedBy w l = cond (eqb (w % 16) gotoKind) false l
+
+-- where a list's first statement goes on to: the others, from number n on, or what the list is left to
+unfoldable pub entryBy : ℕ → ℕ → ℕ → ℕ
+entryBy count n k = cond (eqb count 1) k n
