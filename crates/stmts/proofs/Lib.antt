@@ -2,3 +2,4 @@ pub mod Forms
 pub mod Makes
 pub mod Lists
 pub mod Splits
+pub mod Places

@@ -20,7 +20,7 @@ use Rattle.stmts.specs.Told.{assignCost}
 use Rattle.codegen.specs.declared.state.Counters.{Counters}
 use Rattle.codegen.specs.Does.{wordTo, Lent, lent, Base, Stands, Does}
 use Rattle.codegen.proofs.Lists.{sets-sets, map-append, length-map}
-use Rattle.stmts.specs.Makes.{Regs, made, nothing, Stored, Became, Makes, placed, jump}
+use Rattle.stmts.specs.Makes.{Regs, made, nothing, Stored, Became, Makes, placed, jump, jumpCost}
 
 -- ---- in and out of a statement
 
@@ -157,3 +157,13 @@ assign-most MulTo = omega arith
 assign-most DivTo = omega arith
 assign-most ModTo = omega arith
 assign-most PowTo = omega arith
+
+pub jump-length : (b : Bool) (n r : ℕ) → length (jump b n r) ≡ jumpCost b
+unfolding jumpCost
+jump-length true n r = refl
+jump-length false n r = refl
+
+pub jump-cost-most : (b : Bool) → jumpCost b ≤ 1
+unfolding jumpCost
+jump-cost-most true = omega arith
+jump-cost-most false = omega arith

@@ -48,7 +48,7 @@ pub record Split (t s : List ℕ) (m n i : ℕ) (x : Block) (z : ℕ) : Type 0 w
 counts : {t s : List ℕ} {m n n' i z : ℕ} {x : Block} → n ≡ n' → HoldsB t s m n i x z → HoldsB t s m n' i x z
 counts p h = rw p at h
 
-starts : {t s : List ℕ} {m n i i' z : ℕ} {x : Block} → i ≡ i' → HoldsB t s m n i x z → HoldsB t s m n i' x z
+pub starts : {t s : List ℕ} {m n i i' z : ℕ} {x : Block} → i ≡ i' → HoldsB t s m n i x z → HoldsB t s m n i' x z
 starts p h = rw p at h
 
 ends : {t s : List ℕ} {m n i z z' : ℕ} {x : Block} → z ≡ z' → HoldsB t s m n i x z → HoldsB t s m n i x z'

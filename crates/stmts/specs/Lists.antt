@@ -8,21 +8,21 @@ use lib.ListN.{length}
 use lib.Seq.{sets}
 use Rattle.rules.specs.Constants.{mostBytes}
 use Rattle.rules.specs.Word.{insWord}
-use Rattle.rules.specs.Tree.{Block, end, ite, assign, Tally, ofBlock}
+use Rattle.rules.specs.Tree.{Block, end, ite, assign, Tally, ofBlock, both}
 use Rattle.rules.specs.Machine.{SectionCode}
 use Rattle.rules.specs.Tables.{runWords, allCode}
 use Rattle.rules.specs.Script.{Stmts, nil, plain}
-use Rattle.rules.specs.Assemble.{stmtSections, orEmpty}
+use Rattle.rules.specs.Assemble.{stmtSections, orEmpty, inner, link}
 use Rattle.rules.specs.CodegenData.{CodegenData, Lower, pure, _>>=_, scoped}
 use Rattle.rules.specs.Operators.{codegenIncdec}
 use Rattle.rules.specs.Annotate.{lineNumber, condition, codegenFromAssign, annotateStmts}
 use Rattle.nodes.specs.Words.{iteKind, gotoKind}
-use Rattle.nodes.specs.Width.{width}
+use Rattle.nodes.specs.Width.{width, orOne}
 use Rattle.nodes.specs.Holds.{HoldsB}
 use Rattle.codegen.specs.declared.state.Counters.{Counters}
 use Rattle.codegen.specs.Does.{Lent}
 use Rattle.codegen.specs.Costs.{Room}
-use Rattle.stmts.specs.Makes.{Regs}
+use Rattle.stmts.specs.Makes.{Regs, Stored}
 
 -- the sections ss stand in the tables: instructions from k to k', words from number n on
 pub record Wrote (ss : List SectionCode) (n k k' : ℕ) (is is' se se' : List ℕ) : Type 0 where
@@ -164,3 +164,46 @@ linkedBy w l = cond (eqb (w % 16) gotoKind) false l
 -- where a list's first statement goes on to: the others, from number n on, or what the list is left to
 unfoldable pub entryBy : ℕ → ℕ → ℕ → ℕ
 entryBy count n k = cond (eqb count 1) k n
+
+-- an Ite's list: it makes a section even where it is empty
+pub record BranchReady (s t : List ℕ) (i count depth j : ℕ) (c : Counters) (il nl sl pl ml zl : ℕ) : Type 0 where
+  pub known : ℕ
+  pub block : Block
+  pub last : ℕ
+  pub held : HoldsB t s known count i block last
+  pub inside : last ≤ length t
+  pub short : length s ≤ mostBytes
+  pub few : known ≤ 256
+  pub shallow : deep block ≤ depth
+  pub ample : Ample (ofBlock block) (orOne (width block)) known j c il nl sl pl ml zl
+
+-- an Ite's lists of a and b statements, from node i on: they make v and w sections from number j on, and the join one more
+pub record IteReady (s t : List ℕ) (i a b depth j v w : ℕ) (c : Counters) (il nl sl pl ml zl : ℕ) : Type 0 where
+  pub known : ℕ
+  pub yes : Block
+  pub no : Block
+  pub mid : ℕ
+  pub last : ℕ
+  pub then-held : HoldsB t s known a i yes mid
+  pub else-held : HoldsB t s known b mid no last
+  pub inside : last ≤ length t
+  pub short : length s ≤ mostBytes
+  pub few : known ≤ 256
+  pub few-then : a < 64
+  pub few-else : b < 64
+  pub width-then : v ≡ orOne (width yes)
+  pub width-else : w ≡ orOne (width no)
+  pub shallow-then : deep yes < depth
+  pub shallow-else : deep no < depth
+  pub ample : Ample (both (ofBlock yes) (ofBlock no)) (v + w + 1) known j c il nl sl pl ml zl
+
+-- both lists and the join are lowered
+pub record IteDone (m : ℕ) (x y : Block) (l : Bool) (j v w k : ℕ) (c : Counters) (t t' : Lent) (se se' : List ℕ) (c' : Counters) : Type 0 where
+  pub mid-counters : Counters
+  pub mid-tables : Lent
+  pub mid-sections : List ℕ
+  pub end-sections : List ℕ
+  pub yes : Branch m x j (j + v + w) c t mid-tables se mid-sections mid-counters
+  pub no : Branch m y (j + v) (j + v + w) mid-counters mid-tables t' mid-sections end-sections c'
+  pub join : Stored (inner [] (link l k)) (j + v + w) (c' .at) (c' .at) (t' .instrs) (t' .instrs) end-sections se'
+  pub spent : SpentAll (both (ofBlock x) (ofBlock y)) c c'

@@ -59,3 +59,8 @@ jump b n r = cond b [] (condJump n r ∷ [])
 -- the counters with another cursor
 abbrev pub placed : Counters → ℕ → Counters
 placed c k = record { at = k; numbers = c .numbers; strings = c .strings; chars = c .chars; values = c .values; err = c .err }
+
+-- what it costs
+unfoldable pub jumpCost : Bool → ℕ
+jumpCost true = 0
+jumpCost false = 1

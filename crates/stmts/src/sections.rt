@@ -9,6 +9,10 @@ ghost use lib.IntN.{ℤ};
 ghost use Prim.Native.Nat.{ℕ, suc, _+_, _*_, _-_, _≤_, _<_};
 ghost use lib.ListN.{length, getD, set};
 ghost use Rattle.rules.specs.Tree as Tree;
+ghost use Rattle.rules.specs.Tree.{ofExpr};
+ghost use Rattle.codegen.specs.Costs.{Spent};
+ghost use Rattle.exprs.specs.Exprs.{exprCost};
+ghost use Rattle.stmts.specs.Told.{assignCost};
 ghost use Rattle.rules.specs.Word.{runWord, insWord};
 ghost use Rattle.rules.specs.Parse.{assignops};
 ghost use Rattle.rules.specs.Operators.{codegenIncdec};
@@ -19,7 +23,7 @@ ghost use Rattle.words.specs.Runs as Runs;
 ghost use Rattle.nodes.specs.Holds.{HoldsE};
 ghost use Rattle.codegen.specs.Does.{lent};
 ghost use Rattle.stmts.specs.Own.{Holding, Setting};
-ghost use Rattle.stmts.specs.Makes.{Makes, nothing, jump, placed};
+ghost use Rattle.stmts.specs.Makes.{Makes, nothing, jump, jumpCost, placed};
 use crate::own::codegen_from_assign;
 use crate::own::condition;
 use crate::own::line_number;
@@ -58,7 +62,7 @@ pub fn put_section(
 }
 
 // The successor of a linked or an unlinked statement.
-fn successor(place: Place) -> SectionOrLine
+pub fn successor(place: Place) -> SectionOrLine
     ensures { λ r. ⌜ Runs.successTold r ≡ link (place .linked) (place .next .0) ⌝ }
 {
     let next = place.next;
@@ -80,7 +84,7 @@ pub fn codegen_from_step(
     x: usize,
 ) -> Counters
     requires { ⌜ (c .at + 2 ≤ length (now instrs)) × (x < length (now names)) × (c .values < 65535) × (place .slot < length (now sections)) × (c .at + 2 < 65536) ⌝ }
-    ensures { λ r. ⌜ ((n : ℕ) (ns : List ℤ) (ss ps : List ℕ) → x < n → Makes n (codegenIncdec inc x) (place .start) nothing (λ _. link (place .linked) (place .next .0)) (place .slot) c (lent (now (instrs .entry)) ns ss ps (now (names .entry))) (lent (now (instrs .exit)) ns ss ps (now (names .exit))) (now (sections .entry)) (now (sections .exit)) r) ⌝ }
+    ensures { λ r. ⌜ ((n : ℕ) (ns : List ℤ) (ss ps : List ℕ) → x < n → Makes n (codegenIncdec inc x) (place .start) nothing (λ _. link (place .linked) (place .next .0)) (place .slot) c (lent (now (instrs .entry)) ns ss ps (now (names .entry))) (lent (now (instrs .exit)) ns ss ps (now (names .exit))) (now (sections .entry)) (now (sections .exit)) r × Spent c r 2 0 1 0 0) ⌝ }
 {
     let v = codegen_incdec(instrs, names, c, inc, x);
     let d = v.next;
@@ -110,7 +114,7 @@ pub fn codegen_from_goto(
     place: Place,
 ) -> Counters
     requires { ⌜ Holding (now s) (now nodes) i c 2 1 0 (length (now instrs)) (length (now numbers)) (length (now strings)) (length (now pool)) (length (now names)) × (place .slot < length (now sections)) × (length (now instrs) < 65536) ⌝ }
-    ensures { λ r. ⌜ ((m : ℕ) (e : Tree.Expr) (j : ℕ) → m ≤ 256 → HoldsE (now (nodes .entry)) (now (s .entry)) m i e j → Makes m (lineNumber e) (place .start) nothing Machine.line (place .slot) c (lent (now (instrs .entry)) (now (numbers .entry)) (now (strings .entry)) (now (pool .entry)) (now (names .entry))) (lent (now (instrs .exit)) (now (numbers .exit)) (now (strings .exit)) (now (pool .exit)) (now (names .exit))) (now (sections .entry)) (now (sections .exit)) r) ⌝ }
+    ensures { λ r. ⌜ ((m : ℕ) (e : Tree.Expr) (j : ℕ) → m ≤ 256 → HoldsE (now (nodes .entry)) (now (s .entry)) m i e j → Makes m (lineNumber e) (place .start) nothing Machine.line (place .slot) c (lent (now (instrs .entry)) (now (numbers .entry)) (now (strings .entry)) (now (pool .entry)) (now (names .entry))) (lent (now (instrs .exit)) (now (numbers .exit)) (now (strings .exit)) (now (pool .exit)) (now (names .exit))) (now (sections .entry)) (now (sections .exit)) r × Spent c r (exprCost e + 2) (2 * ofExpr e .nodes + 1) (3 * ofExpr e .nodes + 0) (ofExpr e .strings) (ofExpr e .characters)) ⌝ }
 {
     let n = line_number(s, nodes, instrs, numbers, strings, pool, names, i, c);
     let d = n.next;
@@ -143,7 +147,7 @@ pub fn codegen_from_set(
     op: u64,
 ) -> Counters
     requires { ⌜ Setting (now s) (now nodes) i c x (length (now instrs)) (length (now numbers)) (length (now strings)) (length (now pool)) (length (now names)) × (op < 7) × (place .slot < length (now sections)) × (length (now instrs) < 65536) ⌝ }
-    ensures { λ r. ⌜ ((m : ℕ) (e : Tree.Expr) (j : ℕ) → m ≤ 256 → x < m → HoldsE (now (nodes .entry)) (now (s .entry)) m i e j → Makes m (codegenFromAssign x (getD assignops op Tree.PowTo) e) (place .start) nothing (λ _. link (place .linked) (place .next .0)) (place .slot) c (lent (now (instrs .entry)) (now (numbers .entry)) (now (strings .entry)) (now (pool .entry)) (now (names .entry))) (lent (now (instrs .exit)) (now (numbers .exit)) (now (strings .exit)) (now (pool .exit)) (now (names .exit))) (now (sections .entry)) (now (sections .exit)) r) ⌝ }
+    ensures { λ r. ⌜ ((m : ℕ) (e : Tree.Expr) (j : ℕ) → m ≤ 256 → x < m → HoldsE (now (nodes .entry)) (now (s .entry)) m i e j → Makes m (codegenFromAssign x (getD assignops op Tree.PowTo) e) (place .start) nothing (λ _. link (place .linked) (place .next .0)) (place .slot) c (lent (now (instrs .entry)) (now (numbers .entry)) (now (strings .entry)) (now (pool .entry)) (now (names .entry))) (lent (now (instrs .exit)) (now (numbers .exit)) (now (strings .exit)) (now (pool .exit)) (now (names .exit))) (now (sections .entry)) (now (sections .exit)) r × Spent c r (exprCost e + assignCost (getD assignops op Tree.PowTo)) (2 * ofExpr e .nodes + 2) (3 * ofExpr e .nodes + 2) (ofExpr e .strings) (ofExpr e .characters)) ⌝ }
 {
     let d = codegen_from_assign(s, nodes, instrs, numbers, strings, pool, names, i, c, x, op);
     put_section(
@@ -191,7 +195,7 @@ pub fn codegen_from_test(
     target: Section,
 ) -> Counters
     requires { ⌜ Holding (now s) (now nodes) i c 2 1 0 (length (now instrs)) (length (now numbers)) (length (now strings)) (length (now pool)) (length (now names)) × (place .slot < length (now sections)) × (length (now instrs) < 65536) ⌝ }
-    ensures { λ r. ⌜ ((m : ℕ) (e : Tree.Expr) (j : ℕ) → m ≤ 256 → HoldsE (now (nodes .entry)) (now (s .entry)) m i e j → Makes m (conditionS e) (place .start) (jump empty (target .0)) (λ _. Machine.section (place .next .0)) (place .slot) c (lent (now (instrs .entry)) (now (numbers .entry)) (now (strings .entry)) (now (pool .entry)) (now (names .entry))) (lent (now (instrs .exit)) (now (numbers .exit)) (now (strings .exit)) (now (pool .exit)) (now (names .exit))) (now (sections .entry)) (now (sections .exit)) r) ⌝ }
+    ensures { λ r. ⌜ ((m : ℕ) (e : Tree.Expr) (j : ℕ) → m ≤ 256 → HoldsE (now (nodes .entry)) (now (s .entry)) m i e j → Makes m (conditionS e) (place .start) (jump empty (target .0)) (λ _. Machine.section (place .next .0)) (place .slot) c (lent (now (instrs .entry)) (now (numbers .entry)) (now (strings .entry)) (now (pool .entry)) (now (names .entry))) (lent (now (instrs .exit)) (now (numbers .exit)) (now (strings .exit)) (now (pool .exit)) (now (names .exit))) (now (sections .entry)) (now (sections .exit)) r × Spent c r (exprCost e + 1 + jumpCost empty) (2 * ofExpr e .nodes + 1) (3 * ofExpr e .nodes + 0) (ofExpr e .strings) (ofExpr e .characters)) ⌝ }
 {
     let n = condition(s, nodes, instrs, numbers, strings, pool, names, i, c);
     let test = n.reg;

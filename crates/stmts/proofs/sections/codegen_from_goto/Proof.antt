@@ -51,7 +51,7 @@ same-length-6 c = search needs
 -- src/sections.rt:77:1
 returns : tie.Need-returns
 returns c =
-    λ m e j h x. makes-plain _ _ _ (c .before .before .before .before .before .before .before .before .before .before .before .before .before .before .before .line-number .ensures m e j h x .does) (c .before .before .put-section .ensures) refl
+    λ m e j h x. (makes-plain _ _ _ (c .before .before .before .before .before .before .before .before .before .before .before .before .before .before .before .line-number .ensures m e j h x .does) (c .before .before .put-section .ensures) refl, c .before .before .before .before .before .before .before .before .before .before .before .before .before .before .before .line-number .ensures m e j h x .spent)
 
 pub codegen-from-goto-spec : {M : Type 1} → statement M
 codegen-from-goto-spec =

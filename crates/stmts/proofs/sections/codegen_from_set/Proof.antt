@@ -60,7 +60,7 @@ same-length-6 c = search needs
 -- src/sections.rt:101:1
 returns : tie.Need-returns
 returns c =
-    λ m e j h y x. makes-plain _ _ _ (c .before .before .before .before .before .before .before .before .before .before .before .before .before .before .codegen-from-assign .ensures m e j h y x .does) (c .before .before .put-section .ensures) (rw (c .before .before .before .successor .ensures))
+    λ m e j h y x. (makes-plain _ _ _ (c .before .before .before .before .before .before .before .before .before .before .before .before .before .before .codegen-from-assign .ensures m e j h y x .does) (c .before .before .put-section .ensures) (rw (c .before .before .before .successor .ensures)), c .before .before .before .before .before .before .before .before .before .before .before .before .before .before .codegen-from-assign .ensures m e j h y x .spent)
 
 pub codegen-from-set-spec : {M : Type 1} → statement M
 codegen-from-set-spec =

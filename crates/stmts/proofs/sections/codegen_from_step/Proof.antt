@@ -38,7 +38,7 @@ same-length-3 c = search needs
 -- src/sections.rt:66:1
 returns : tie.Need-returns
 returns c =
-    λ n ns ss ps h. makes-plain _ _ _ (c .before .before .before .before .before .before .before .before .before .before .codegen-incdec .ensures .1 n h .does) (c .before .before .put-section .ensures) (rw (c .before .before .before .successor .ensures))
+    λ n ns ss ps h. (makes-plain _ _ _ (c .before .before .before .before .before .before .before .before .before .before .codegen-incdec .ensures .1 n h .does) (c .before .before .put-section .ensures) (rw (c .before .before .before .successor .ensures)), c .before .before .before .before .before .before .before .before .before .before .codegen-incdec .ensures .0)
 
 pub codegen-from-step-spec : {M : Type 1} → statement M
 codegen-from-step-spec =

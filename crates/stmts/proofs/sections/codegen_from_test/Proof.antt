@@ -1,3 +1,4 @@
+use Rattle.stmts.proofs.Makes.{makes-jump, jump-most, jump-length}
 use Rattle.stmts.proofs.Makes.{makes-jump, jump-most}
 use Rattle.exprs.proofs.Trees.{expr-most}
 use native.Mathlib.Omega.{arith}
@@ -67,7 +68,10 @@ same-length-6 c = search needs
 -- src/sections.rt:142:1
 returns : tie.Need-returns
 returns c =
-    λ m e j h x. makes-jump _ _ _ _ (c .before .before .before .before .before .before .before .before .before .before .before .before .before .before .before .before .before .before .before .condition .ensures m e j h x .does) (c .before .before .before .before .before .before .before .add-jump .ensures .0) (c .before .before .before .before .before .before .before .add-jump .ensures .1) (c .before .before .put-section .ensures) refl
+    λ m e j h x.
+    let s = c .before .before .before .before .before .before .before .before .before .before .before .before .before .before .before .before .before .before .before .condition .ensures m e j h x .spent in
+    let z = jump-length (c .before .before .before .before .before .before .before .before .before .before .before .before .before .before .before .before .before .before .before .before .before .before .before .before .before .before .before .before .before .before .before .before .args .empty) (c .before .before .before .before .before .before .before .before .before .before .before .before .before .before .before .before .before .before .before .before .before .before .before .before .before .before .before .before .before .before .before .before .args .target .0) (c .before .before .before .before .before .before .before .before .before .before .before .before .before .before .before .before .before .before .before .condition .result .reg .0) in
+    (makes-jump _ _ _ _ (c .before .before .before .before .before .before .before .before .before .before .before .before .before .before .before .before .before .before .before .condition .ensures m e j h x .does) (c .before .before .before .before .before .before .before .add-jump .ensures .0) (c .before .before .before .before .before .before .before .add-jump .ensures .1) (c .before .before .put-section .ensures) refl, rw (c .before .before .before .before .before .before .before .add-jump .ensures .1) (omega arith))
 
 pub codegen-from-test-spec : {M : Type 1} → statement M
 codegen-from-test-spec =
