@@ -12,7 +12,6 @@ ghost use Rattle.rules.specs.Tree.{Block};
 ghost use Rattle.nodes.specs.Holds.{HoldsB};
 ghost use Rattle.codegen.specs.Does.{lent};
 ghost use Rattle.stmts.specs.Lists.{madeBy, linkedBy, entryBy, ListReady, ListDone, BranchReady, BranchDone, IteReady, IteDone};
-use codegen::state::Counters;
 use crate::sections::Place;
 use crate::sections::codegen_from_goto;
 use crate::sections::codegen_from_set;
@@ -20,6 +19,7 @@ use crate::sections::codegen_from_step;
 use crate::sections::codegen_from_test;
 use crate::sections::put_section;
 use crate::sections::successor;
+use codegen::state::Counters;
 use nodes::kinds::ASSIGN;
 use nodes::kinds::GOTO;
 use nodes::kinds::ITE;
@@ -121,15 +121,54 @@ pub fn codegen_from_stmt(
         next,
     };
     if kind == GOTO {
-        return codegen_from_goto(s, nodes, sections, instrs, numbers, strings, pool, names, h, c, place);
+        return codegen_from_goto(
+            s,
+            nodes,
+            sections,
+            instrs,
+            numbers,
+            strings,
+            pool,
+            names,
+            h,
+            c,
+            place,
+        );
     }
     if kind == STEP {
         return codegen_from_step(sections, instrs, names, c, place, w / 16 % 16 == 1, x);
     }
     if kind == ASSIGN {
-        return codegen_from_set(s, nodes, sections, instrs, numbers, strings, pool, names, h, c, place, x, w / 16 % 16);
+        return codegen_from_set(
+            s,
+            nodes,
+            sections,
+            instrs,
+            numbers,
+            strings,
+            pool,
+            names,
+            h,
+            c,
+            place,
+            x,
+            w / 16 % 16,
+        );
     }
-    codegen_from_ite(s, nodes, sections, instrs, numbers, strings, pool, names, i, depth, link, c)
+    codegen_from_ite(
+        s,
+        nodes,
+        sections,
+        instrs,
+        numbers,
+        strings,
+        pool,
+        names,
+        i,
+        depth,
+        link,
+        c,
+    )
 }
 
 // The Ite at node i: its own section, its lists and the section that joins them.
@@ -163,7 +202,21 @@ fn codegen_from_ite(
         linked: link.linked,
         next: other,
     };
-    let d = codegen_from_test(s, nodes, sections, instrs, numbers, strings, pool, names, h, c, place, a == 0, Section(first));
+    let d = codegen_from_test(
+        s,
+        nodes,
+        sections,
+        instrs,
+        numbers,
+        strings,
+        pool,
+        names,
+        h,
+        c,
+        place,
+        a == 0,
+        Section(first),
+    );
     let next = link.next;
     let inner = Link {
         linked: link.linked,
@@ -171,7 +224,24 @@ fn codegen_from_ite(
         next,
     };
     let node = (nodes[h] / 281474976710656) as usize;
-    codegen_from_lists(s, nodes, sections, instrs, numbers, strings, pool, names, node, a, (p % 64) as usize, depth, inner, v, (p / 64) as u16, d)
+    codegen_from_lists(
+        s,
+        nodes,
+        sections,
+        instrs,
+        numbers,
+        strings,
+        pool,
+        names,
+        node,
+        a,
+        (p % 64) as usize,
+        depth,
+        inner,
+        v,
+        (p / 64) as u16,
+        d,
+    )
 }
 
 // An Ite's lists of a and b statements, from node i on, and their join: they make v and w sections.
@@ -199,8 +269,38 @@ fn codegen_from_lists(
     let other = link.number + v;
     let join = other + w;
     let d = depth - 1;
-    let t = codegen_from_branch(s, nodes, sections, instrs, numbers, strings, pool, names, i, a, d, link.number, Section(join), c);
-    let e = codegen_from_branch(s, nodes, sections, instrs, numbers, strings, pool, names, t.node, b, d, other, Section(join), t.next);
+    let t = codegen_from_branch(
+        s,
+        nodes,
+        sections,
+        instrs,
+        numbers,
+        strings,
+        pool,
+        names,
+        i,
+        a,
+        d,
+        link.number,
+        Section(join),
+        c,
+    );
+    let e = codegen_from_branch(
+        s,
+        nodes,
+        sections,
+        instrs,
+        numbers,
+        strings,
+        pool,
+        names,
+        t.node,
+        b,
+        d,
+        other,
+        Section(join),
+        t.next,
+    );
     let r = e.next;
     let next = link.next;
     let place = Place {
@@ -234,7 +334,14 @@ fn codegen_from_branch(
     ensures { λ r. ⌜ ((m : ℕ) (x : Block) (z : ℕ) → m ≤ 256 → HoldsB (now (nodes .entry)) (now (s .entry)) m count i x z → BranchDone m x z number (join .0) c (lent (now (instrs .entry)) (now (numbers .entry)) (now (strings .entry)) (now (pool .entry)) (now (names .entry))) (lent (now (instrs .exit)) (now (numbers .exit)) (now (strings .exit)) (now (pool .exit)) (now (names .exit))) (now (sections .entry)) (now (sections .exit)) (r .next) (r .node)) ⌝ }
 {
     if count == 0 {
-        put_section(sections, number, false, SectionOrLine::Section(join), c.at, c.at);
+        put_section(
+            sections,
+            number,
+            false,
+            SectionOrLine::Section(join),
+            c.at,
+            c.at,
+        );
         return Ended { next: c, node: i };
     }
     let link = Link {
@@ -242,7 +349,21 @@ fn codegen_from_branch(
         number,
         next: join,
     };
-    codegen_and_link_stmts(s, nodes, sections, instrs, numbers, strings, pool, names, i, count, depth, link, c)
+    codegen_and_link_stmts(
+        s,
+        nodes,
+        sections,
+        instrs,
+        numbers,
+        strings,
+        pool,
+        names,
+        i,
+        count,
+        depth,
+        link,
+        c,
+    )
 }
 
 // A list of `count` statements from node i on: each goes on to the next, but for those behind a Goto.
@@ -269,8 +390,35 @@ pub fn codegen_and_link_stmts(
     }
     let w = nodes[i];
     let first = first_link(w, count, link);
-    let d = codegen_from_stmt(s, nodes, sections, instrs, numbers, strings, pool, names, i, depth, first, c);
+    let d = codegen_from_stmt(
+        s,
+        nodes,
+        sections,
+        instrs,
+        numbers,
+        strings,
+        pool,
+        names,
+        i,
+        depth,
+        first,
+        c,
+    );
     let others = rest_link(w, link);
     let node = (w / 281474976710656) as usize;
-    codegen_and_link_stmts(s, nodes, sections, instrs, numbers, strings, pool, names, node, count - 1, depth, others, d)
+    codegen_and_link_stmts(
+        s,
+        nodes,
+        sections,
+        instrs,
+        numbers,
+        strings,
+        pool,
+        names,
+        node,
+        count - 1,
+        depth,
+        others,
+        d,
+    )
 }
