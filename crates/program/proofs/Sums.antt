@@ -10,10 +10,14 @@ use lib.Dec.{eqb}
 use lib.ListN.{length, getD, getElem?}
 use borrow.Author.Tests.{eq-eqb, ne-eqb}
 use Rattle.rules.specs.Constants.{mostBytes}
-use Rattle.rules.specs.Tree.{Expr, Gt, Atan, PowTo, Binop, Unop}
+use Rattle.rules.specs.Tree.{Expr, Gt, Atan, PowTo, Binop, Unop, Block, end, ite, assign}
 use Rattle.rules.specs.Parse.{binops, unops, assignops}
-use Rattle.nodes.specs.Words.{wordOf, binopKind, unopKind, incdecKind, identKind, numberKind, stringKind}
-use Rattle.nodes.specs.Holds.{HoldsE, at-binop, at-unop, at-incdec, at-ident, at-number, at-string}
+use Rattle.nodes.specs.Words.{wordOf, binopKind, unopKind, incdecKind, identKind, numberKind, stringKind, gotoKind, stepKind, assignKind, iteKind}
+use Rattle.nodes.proofs.Blocks.{is-end, is-step, tag, kind-held}
+use Rattle.stmts.specs.Lists.{isEnd, only}
+use Rattle.stmts.proofs.Splits.{split}
+use Rattle.stmts.proofs.Places.{goto-at, step-at, assign-at, ite-at, empty-same, not-end}
+use Rattle.nodes.specs.Holds.{HoldsE, HoldsB, at-binop, at-unop, at-incdec, at-ident, at-number, at-string}
 use Rattle.nodes.proofs.Words.{Fits, unpacked}
 use Rattle.nodes.proofs.Table.{grows}
 use Rattle.nodes.proofs.Exprs.{op-small}
@@ -21,7 +25,7 @@ use Rattle.codegen.specs.Costs.{binopCost, unopCost}
 use Rattle.codegen.proofs.Lists.{found}
 use Rattle.exprs.specs.Exprs.{exprCost}
 use Rattle.stmts.specs.Makes.{jumpCost}
-use Rattle.program.specs.Costs.{kindCost, nodeCost, costs}
+use Rattle.program.specs.Costs.{kindCost, nodeCost, costs, ownCost}
 
 -- ---- ranges
 
@@ -109,5 +113,75 @@ next-sum t i k n w h p q =
     let f : i + (k - i) ≡ k = omega arith in
     rw e (omega (arith, costs-more t i (k - i), ap (λ (x : ℕ). nodeCost (getD t x 0)) f))
 
-pub whole-sum : (t : List ℕ) (i end k n : ℕ) → k ≤ end → end ≤ k → n ≡ costs t i (k - i) → n ≡ costs t i (end - i)
-whole-sum t i end k n p q h = let e : end ≡ k = omega arith in rw e h
+pub whole-sum : (t : List ℕ) (i j k n : ℕ) → k ≤ j → j ≤ k → n ≡ costs t i (k - i) → n ≡ costs t i (j - i)
+whole-sum t i j k n p q h = let e : j ≡ k = omega arith in rw e h
+
+-- ---- statements
+
+-- node i and the expression behind it
+node-expr : (t : List ℕ) (i j c e : ℕ) → i + 1 ≤ j → nodeCost (getD t i 0) ≡ c → costs t (i + 1) (j - (i + 1)) ≡ e → costs t i (j - i) ≡ e + c
+node-expr t i j c e h p q = omega (arith, node-two t i j j h (omega arith), nothing t j)
+
+own-only : (x : Block) → ownCost (only x) ≡ ownCost x
+unfolding ownCost only
+own-only end = refl
+own-only (Block.goto e xs) = refl
+own-only (ite e a b xs) = refl
+own-only (Block.incdec i x xs) = refl
+own-only (assign x o e xs) = refl
+
+module _ {t s : List ℕ} {m i z : ℕ} {x : Block} (a : length s ≤ mostBytes) (c : m ≤ 256) (h : HoldsB t s m 1 i x z) where
+  goto-cost : getD t i 0 % 16 ≡ gotoKind → costs t i (z - i) ≡ ownCost x
+  unfolding ownCost kindCost
+  goto-cost k =
+      let b = goto-at h k in
+      let g = grows (b .to) in
+      rw (b .is) (node-expr t i z 2 _ (omega arith) (cost-of _ gotoKind _ _ 2 k refl refl refl) (expr-costs a c (b .to)))
+
+  assign-cost : getD t i 0 % 16 ≡ assignKind → costs t i (z - i) ≡ ownCost x
+  unfolding ownCost kindCost
+  assign-cost k =
+      let b = assign-at c h k in
+      let g = grows (b .value) in
+      rw (b .is) (node-expr t i z _ _ (omega arith) (cost-of _ assignKind _ _ _ k refl refl refl) (expr-costs a c (b .value)))
+
+  step-cost : getD t i 0 % 16 ≡ stepKind → z ≡ i + 1 → costs t i (z - i) ≡ ownCost x
+  unfolding ownCost kindCost
+  step-cost k e =
+      let b = step-at c h k in
+      rw (b .is) (node-one t i z e ∙ cost-of _ stepKind _ _ 2 k refl refl refl)
+
+  ite-cost : getD t i 0 % 16 ≡ iteKind → costs t i (getD t (i + 1) 0 / 281474976710656 - i) ≡ ownCost x
+  unfolding ownCost kindCost
+  ite-cost k =
+      let b = ite-at a c h k in
+      let g = b .first in
+      let v = node-expr t i _ (1 + jumpCost (isEnd (b .yes))) _ (omega arith) (cost-of _ iteKind _ _ _ k refl refl (ap (λ (y : Bool). 1 + jumpCost y) (empty-same (b .then-held)))) (expr-costs a c (b .test)) in
+      rw (b .is) (omega arith)
+
+  -- where a step ends
+  step-end : getD t i 0 % 16 ≡ stepKind → z ≡ i + 1
+  step-end k =
+      let b = is-step (omega arith) h k in
+      let n = b .count in
+      let f = is-end (b .others) (omega arith) in
+      let g = b .flag .last in
+      sym (f .here) ∙ g
+
+  by-kind : (getD t i 0 % 16 ≡ iteKind → ⊥) → getD t i 0 % 16 ≡ tag x → costs t i (z - i) ≡ ownCost x
+  unfolding tag
+  by-kind k q = go x (sym q) (not-end h (λ y. omega arith))
+    where
+      go : (y : Block) → tag y ≡ getD t i 0 % 16 → isEnd y ≡ false → costs t i (z - i) ≡ ownCost x
+      go end e n = absurd (let w : _≡_ {A = ℕ} 0 1 = cc in omega arith)
+      go (Block.goto v xs) e n = goto-cost (sym e)
+      go (ite v y w xs) e n = absurd (k (sym e))
+      go (Block.incdec f y xs) e n = step-cost (sym e) (step-end (sym e))
+      go (assign y o v xs) e n = assign-cost (sym e)
+
+-- the whole list's first statement
+pub own-other : {t s : List ℕ} {m n i z : ℕ} {x : Block} → length s ≤ mostBytes → m ≤ 256 → 0 < n → HoldsB t s m n i x z → (getD t i 0 % 16 ≡ iteKind → ⊥) → costs t i (getD t i 0 / 281474976710656 - i) ≡ ownCost x
+own-other {x = x} a c p h k = let s = split a c p h in by-kind a c (s .head) k (kind-held (omega arith) (s .head)) ∙ own-only x
+
+pub own-ite : {t s : List ℕ} {m n i z : ℕ} {x : Block} → length s ≤ mostBytes → m ≤ 256 → 0 < n → HoldsB t s m n i x z → getD t i 0 % 16 ≡ iteKind → costs t i (getD t (i + 1) 0 / 281474976710656 - i) ≡ ownCost x
+own-ite {x = x} a c p h k = let s = split a c p h in ite-cost a c (s .head) k ∙ own-only x

@@ -2,10 +2,14 @@
 -- instructions, so their own instructions are counted before lowering starts.
 use mathlib.Core.Bool.{Bool, true, false, cond}
 use mathlib.Core.List.{List}
-use Prim.Native.Nat.{ℕ, zero, suc, _+_, _/_, _%_}
+use Prim.Native.Nat.{ℕ, zero, suc, _+_, _/_, _%_, _≤_, _<_}
 use lib.Dec.{eqb}
-use lib.ListN.{getD}
-use Rattle.rules.specs.Tree.{Gt, Atan, PowTo}
+use lib.ListN.{length, getD}
+use Rattle.rules.specs.Constants.{mostBytes}
+use Rattle.nodes.specs.Holds.{HoldsB}
+use Rattle.exprs.specs.Exprs.{exprCost}
+use Rattle.stmts.specs.Lists.{isEnd}
+use Rattle.rules.specs.Tree.{Gt, Atan, PowTo, Block, end, ite, assign}
 use Rattle.rules.specs.Parse.{binops, unops, assignops}
 use Rattle.nodes.specs.Words.{binopKind, unopKind, assignKind, identKind, numberKind, stringKind, iteKind}
 use Rattle.codegen.specs.Costs.{binopCost, unopCost}
@@ -27,3 +31,25 @@ nodeCost w = kindCost (w % 16) (w / 16 % 16) (w / 256 % 256)
 unfoldable pub costs : List ℕ → ℕ → ℕ → ℕ
 costs t i zero = 0
 costs t i (suc n) = nodeCost (getD t i 0) + costs t (i + 1) n
+
+-- of a list's first statement, without the lists that it holds
+unfoldable pub ownCost : Block → ℕ
+ownCost end = 0
+ownCost (Block.goto e xs) = exprCost e + 2
+ownCost (ite e x y xs) = exprCost e + 1 + jumpCost (isEnd x)
+ownCost (Block.incdec i x xs) = 2
+ownCost (assign x o e xs) = exprCost e + assignCost o
+
+-- a list with a statement is held at node i
+pub record ListAt (t : List ℕ) (i : ℕ) : Type 0 where
+  pub file : List ℕ
+  pub known : ℕ
+  pub count : ℕ
+  pub block : Block
+  pub last : ℕ
+  pub held : HoldsB t file known count i block last
+  pub some : 0 < count
+  pub short : length file ≤ mostBytes
+  pub few : known ≤ 256
+  pub inside : last ≤ length t
+  pub small : last ≤ 2048

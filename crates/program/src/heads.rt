@@ -1,14 +1,18 @@
 // How many instructions the nodes of a range give, from their words alone.
 //
-// Each function is shown equal to a definition of specs/Costs. A caller owes operators of 4 bits and a range within the table.
+// Each function is shown equal to a definition of specs/Costs; the own instructions of a statement are as many as lowering emits (`exprCost`,
+// and what `stmts` says of each statement). A caller owes operators of 4 bits and a range within the table.
 ghost use mathlib.Core.Path.{_≡_};
-ghost use Prim.Native.Nat.{_-_, _≤_, _<_};
+ghost use mathlib.Core.List.{List};
+ghost use Prim.Native.Nat.{ℕ, _-_, _≤_, _<_};
 ghost use lib.ListN.{length, getD};
-ghost use Rattle.rules.specs.Tree.{Gt, Atan, PowTo};
+ghost use Rattle.rules.specs.Tree.{Gt, Atan, PowTo, Block};
+ghost use Rattle.rules.specs.Constants.{mostBytes};
+ghost use Rattle.nodes.specs.Holds.{HoldsB};
 ghost use Rattle.rules.specs.Parse.{binops, unops, assignops};
 ghost use Rattle.codegen.specs.Costs.{binopCost, unopCost};
 ghost use Rattle.stmts.specs.Told.{assignCost};
-ghost use Rattle.program.specs.Costs.{nodeCost, costs};
+ghost use Rattle.program.specs.Costs.{nodeCost, costs, ownCost, ListAt};
 use nodes::kinds::ASSIGN;
 use nodes::kinds::BINOP;
 use nodes::kinds::IDENT;
@@ -106,4 +110,18 @@ pub fn sum_costs(nodes: &[u64], i: usize, end: usize) -> usize
         k += 1;
     }
     n
+}
+
+// Of the first statement of the list at node i, without the lists that it holds: an Ite's condition ends where its first node says.
+pub fn own_cost(nodes: &[u64], i: usize) -> usize
+    requires { ⌜ ListAt (now nodes) i ⌝ }
+    ensures { λ r. ⌜ ((s : List ℕ) (m n : ℕ) (x : Block) (z : ℕ) → length s ≤ mostBytes → m ≤ 256 → 0 < n → HoldsB (now (nodes .entry)) s m n i x z → r ≡ ownCost x) ⌝ }
+{
+    let w = nodes[i];
+    if w % 16 == ITE {
+        let h = i + 1;
+        let end = (nodes[h] / 281474976710656) as usize;
+        return sum_costs(nodes, i, end);
+    }
+    sum_costs(nodes, i, (w / 281474976710656) as usize)
 }
