@@ -1,0 +1,130 @@
+// The counters of lowering, and the steps that change one lent table: an instruction, a number, a value register, a name's register.
+//
+// Each step is shown to do what the step of its name in `rules` (CodegenData, Operators) does. A caller owes room in the table, and
+// counts below 65,535.
+ghost use mathlib.Core.Path.{_≡_};
+ghost use Prim.Native.Nat.{ℕ, _<_};
+ghost use lib.ListN.{length};
+ghost use Rattle.rules.specs.Instr.{Instruction as Ins};
+ghost use Rattle.rules.specs.CodegenData.{emit as emitS, newNum, newVal};
+ghost use Rattle.rules.specs.Operators.{errorJump, getVariable};
+ghost use Rattle.codegen.specs.Does.{wordTo, DoesNone, DoesCode, DoesNums, DoesNames};
+ghost use Rattle.codegen.specs.Costs.{Spent};
+use words::instr::Instruction;
+use words::instr::NumReg;
+use words::instr::Section;
+use words::instr::StrReg;
+use words::instr::ValReg;
+
+// Where the next instruction goes; how many registers there are, and characters in the pool; the line that errors go to.
+pub struct Counters {
+    pub at: usize,
+    pub numbers: u16,
+    pub strings: u16,
+    pub chars: u16,
+    pub values: u16,
+    pub err: Section,
+}
+
+// A register, and the counters after the step that gave it.
+pub struct GotNum {
+    pub reg: NumReg,
+    pub next: Counters,
+}
+
+pub struct GotStr {
+    pub reg: StrReg,
+    pub next: Counters,
+}
+
+pub struct GotVal {
+    pub reg: ValReg,
+    pub next: Counters,
+}
+
+// A name without a register.
+pub const NO_REGISTER: u16 = 65535;
+
+// A count as an index.
+pub fn index(n: u16) -> usize
+    ensures { λ r. ⌜ r ≡ n ⌝ }
+{
+    n as usize
+}
+
+// An instruction behind the others.
+pub fn emit(instrs: &mut [u64], c: Counters, w: Instruction) -> Counters
+    requires { ⌜ c .at < length (now instrs) ⌝ }
+    ensures spent { λ r. ⌜ Spent c r 1 0 0 0 0 ⌝ }
+    ensures does { λ r. ⌜ ((i : Ins) → w .0 ≡ wordTo (c .err .0) i → DoesCode (emitS i) c (now (instrs .entry)) (now (instrs .exit)) 0 r) ⌝ }
+{
+    let n = c.at;
+    instrs[n] = w.0;
+    let mut d = c;
+    d.at = n + 1;
+    d
+}
+
+// A number register that starts as z.
+pub fn new_num(numbers: &mut [i64], c: Counters, z: i64) -> GotNum
+    requires { ⌜ (c .numbers < length (now numbers)) × (c .numbers < 65535) ⌝ }
+    ensures spent { λ r. ⌜ Spent c (r .next) 0 1 0 0 0 ⌝ }
+    ensures does { λ r. ⌜ DoesNums (newNum z) c (now (numbers .entry)) (now (numbers .exit)) (r .reg .0) (r .next) ⌝ }
+{
+    let n = c.numbers;
+    let i = index(n);
+    numbers[i] = z;
+    let mut d = c;
+    d.numbers = n + 1;
+    GotNum {
+        reg: NumReg(n),
+        next: d,
+    }
+}
+
+// A value register.
+pub fn new_val(c: Counters) -> GotVal
+    requires { ⌜ c .values < 65535 ⌝ }
+    ensures spent { λ r. ⌜ Spent c (r .next) 0 0 1 0 0 ⌝ }
+    ensures does { λ r. ⌜ DoesNone newVal c (r .reg .0) (r .next) ⌝ }
+{
+    let v = c.values;
+    let mut d = c;
+    d.values = v + 1;
+    GotVal {
+        reg: ValReg(v),
+        next: d,
+    }
+}
+
+// A name's value register: a new one where it is met for the first time.
+pub fn get_variable(names: &mut [u16], c: Counters, x: usize) -> GotVal
+    requires { ⌜ (x < length (now names)) × (c .values < 65535) ⌝ }
+    ensures spent { λ r. ⌜ Spent c (r .next) 0 0 1 0 0 ⌝ }
+    ensures does { λ r. ⌜ ((n : ℕ) → x < n → DoesNames n (getVariable x) c (now (names .entry)) (now (names .exit)) (r .reg .0) (r .next)) ⌝ }
+{
+    let v = names[x];
+    if v != NO_REGISTER {
+        return GotVal {
+            reg: ValReg(v),
+            next: c,
+        };
+    }
+    let n = c.values;
+    names[x] = n;
+    let mut d = c;
+    d.values = n + 1;
+    GotVal {
+        reg: ValReg(n),
+        next: d,
+    }
+}
+
+// An error jump, to the next line.
+pub fn add_jmperr(instrs: &mut [u64], c: Counters) -> Counters
+    requires { ⌜ c .at < length (now instrs) ⌝ }
+    ensures spent { λ r. ⌜ Spent c r 1 0 0 0 0 ⌝ }
+    ensures does { λ r. ⌜ DoesCode (emitS errorJump) c (now (instrs .entry)) (now (instrs .exit)) 0 r ⌝ }
+{
+    emit(instrs, c, Instruction::jump_if_error(c.err))
+}

@@ -1,0 +1,5 @@
+pub mod Forms
+pub mod Makes
+pub mod Lists
+pub mod Splits
+pub mod Places

@@ -1,0 +1,4 @@
+pub mod Told
+pub mod Own
+pub mod Makes
+pub mod Lists

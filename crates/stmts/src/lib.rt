@@ -1,0 +1,4 @@
+// Lowering of statements.
+pub mod own;
+pub mod sections;
+pub mod stmt;

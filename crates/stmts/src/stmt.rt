@@ -1,0 +1,424 @@
+// Statements and lists of statements, as in yogi's codegen.rs. Since the node table keeps how many sections an Ite's lists make, each section is
+// written with its final number and successor.
+//
+// `codegen_from_stmt` and `codegen_and_link_stmts` call each other, with the remaining depth falling; both are shown to write the sections that
+// `stmtSections` of `rules` makes of what `annotateStmts` gives. A caller owes the node table and room (`ListReady`).
+ghost use mathlib.Core.Path.{_≡_};
+ghost use mathlib.Core.List.{List};
+ghost use Prim.Native.Nat.{ℕ, _+_, _*_, _-_, _%_, _≤_, _<_};
+ghost use lib.ListN.{length, getD};
+ghost use Rattle.nodes.specs.Words.{iteKind};
+ghost use Rattle.rules.specs.Tree.{Block};
+ghost use Rattle.nodes.specs.Holds.{HoldsB};
+ghost use Rattle.codegen.specs.Does.{lent};
+ghost use Rattle.stmts.specs.Lists.{madeBy, linkedBy, entryBy, ListReady, ListDone, BranchReady, BranchDone, IteReady, IteDone};
+use crate::sections::Place;
+use crate::sections::codegen_from_goto;
+use crate::sections::codegen_from_set;
+use crate::sections::codegen_from_step;
+use crate::sections::codegen_from_test;
+use crate::sections::put_section;
+use crate::sections::successor;
+use codegen::state::Counters;
+use nodes::kinds::ASSIGN;
+use nodes::kinds::GOTO;
+use nodes::kinds::ITE;
+use nodes::kinds::STEP;
+use words::instr::Section;
+use words::section::SectionOrLine;
+
+// A list's place among the sections: whether it is linked, the number of its first section, the section that follows it.
+pub struct Link {
+    pub linked: bool,
+    pub number: u16,
+    pub next: Section,
+}
+
+// The counters behind a list, and the node behind it.
+pub struct Ended {
+    pub next: Counters,
+    pub node: usize,
+}
+
+// How many sections the statement with the word w makes.
+fn made(w: u64) -> u16
+    ensures { λ r. ⌜ r ≡ madeBy w ⌝ }
+{
+    if w % 16 == ITE {
+        return (2 + w / 34359738368 % 8192 + w / 65536 % 524288 / 64) as u16;
+    }
+    1
+}
+
+// The place of a list's first statement: it goes on to the others, if there are any.
+fn first_link(w: u64, count: usize, link: Link) -> Link
+    requires { ⌜ link .number + madeBy w ≤ 65535 ⌝ }
+    ensures linked { λ r. ⌜ r .linked ≡ link .linked ⌝ }
+    ensures number { λ r. ⌜ r .number ≡ link .number ⌝ }
+    ensures next { λ r. ⌜ r .next .0 ≡ entryBy count (link .number + madeBy w) (link .next .0) ⌝ }
+{
+    if count == 1 {
+        return link;
+    }
+    let next = Section(link.number + made(w));
+    Link {
+        linked: link.linked,
+        number: link.number,
+        next,
+    }
+}
+
+// The place of the others: behind a Goto they are not linked.
+fn rest_link(w: u64, link: Link) -> Link
+    requires { ⌜ link .number + madeBy w ≤ 65535 ⌝ }
+    ensures linked { λ r. ⌜ r .linked ≡ linkedBy w (link .linked) ⌝ }
+    ensures number { λ r. ⌜ r .number ≡ link .number + madeBy w ⌝ }
+    ensures next { λ r. ⌜ r .next .0 ≡ link .next .0 ⌝ }
+{
+    let number = link.number + made(w);
+    let next = link.next;
+    if w % 16 == GOTO {
+        return Link {
+            linked: false,
+            number,
+            next,
+        };
+    }
+    Link {
+        linked: link.linked,
+        number,
+        next,
+    }
+}
+
+// The statement at node i, with the lists that it holds.
+pub fn codegen_from_stmt(
+    s: &[u8],
+    nodes: &[u64],
+    sections: &mut [u64],
+    instrs: &mut [u64],
+    numbers: &mut [i64],
+    strings: &mut [u32],
+    pool: &mut [u8],
+    names: &mut [u16],
+    i: usize,
+    depth: usize,
+    link: Link,
+    c: Counters,
+) -> Counters
+    requires { ⌜ ListReady (now s) (now nodes) i 1 depth (link .number) c (length (now instrs)) (length (now numbers)) (length (now strings)) (length (now pool)) (length (now names)) (length (now sections)) ⌝ }
+    ensures { λ r. ⌜ ((m : ℕ) (x : Block) (z : ℕ) → m ≤ 256 → HoldsB (now (nodes .entry)) (now (s .entry)) m 1 i x z → ListDone m x z (link .linked) (link .number) (link .next .0) c (lent (now (instrs .entry)) (now (numbers .entry)) (now (strings .entry)) (now (pool .entry)) (now (names .entry))) (lent (now (instrs .exit)) (now (numbers .exit)) (now (strings .exit)) (now (pool .exit)) (now (names .exit))) (now (sections .entry)) (now (sections .exit)) r z) ⌝ }
+{
+    let w = nodes[i];
+    let kind = w % 16;
+    let h = i + 1;
+    let x = (w / 256 % 256) as usize;
+    let next = link.next;
+    let place = Place {
+        slot: link.number,
+        start: false,
+        linked: link.linked,
+        next,
+    };
+    if kind == GOTO {
+        return codegen_from_goto(
+            s,
+            nodes,
+            sections,
+            instrs,
+            numbers,
+            strings,
+            pool,
+            names,
+            h,
+            c,
+            place,
+        );
+    }
+    if kind == STEP {
+        return codegen_from_step(sections, instrs, names, c, place, w / 16 % 16 == 1, x);
+    }
+    if kind == ASSIGN {
+        return codegen_from_set(
+            s,
+            nodes,
+            sections,
+            instrs,
+            numbers,
+            strings,
+            pool,
+            names,
+            h,
+            c,
+            place,
+            x,
+            w / 16 % 16,
+        );
+    }
+    codegen_from_ite(
+        s,
+        nodes,
+        sections,
+        instrs,
+        numbers,
+        strings,
+        pool,
+        names,
+        i,
+        depth,
+        link,
+        c,
+    )
+}
+
+// The Ite at node i: its own section, its lists and the section that joins them.
+fn codegen_from_ite(
+    s: &[u8],
+    nodes: &[u64],
+    sections: &mut [u64],
+    instrs: &mut [u64],
+    numbers: &mut [i64],
+    strings: &mut [u32],
+    pool: &mut [u8],
+    names: &mut [u16],
+    i: usize,
+    depth: usize,
+    link: Link,
+    c: Counters,
+) -> Counters
+    requires { ⌜ ListReady (now s) (now nodes) i 1 depth (link .number) c (length (now instrs)) (length (now numbers)) (length (now strings)) (length (now pool)) (length (now names)) (length (now sections)) × (getD (now nodes) i 0 % 16 ≡ iteKind) ⌝ }
+    ensures { λ r. ⌜ ((m : ℕ) (x : Block) (z : ℕ) → m ≤ 256 → HoldsB (now (nodes .entry)) (now (s .entry)) m 1 i x z → ListDone m x z (link .linked) (link .number) (link .next .0) c (lent (now (instrs .entry)) (now (numbers .entry)) (now (strings .entry)) (now (pool .entry)) (now (names .entry))) (lent (now (instrs .exit)) (now (numbers .exit)) (now (strings .exit)) (now (pool .exit)) (now (names .exit))) (now (sections .entry)) (now (sections .exit)) r z) ⌝ }
+{
+    let w = nodes[i];
+    let h = i + 1;
+    let a = (w / 256 % 256) as usize;
+    let p = w / 65536 % 524288;
+    let v = (w / 34359738368 % 8192) as u16;
+    let first = link.number + 1;
+    let other = Section(first + v);
+    let place = Place {
+        slot: link.number,
+        start: false,
+        linked: link.linked,
+        next: other,
+    };
+    let d = codegen_from_test(
+        s,
+        nodes,
+        sections,
+        instrs,
+        numbers,
+        strings,
+        pool,
+        names,
+        h,
+        c,
+        place,
+        a == 0,
+        Section(first),
+    );
+    let next = link.next;
+    let inner = Link {
+        linked: link.linked,
+        number: first,
+        next,
+    };
+    let node = (nodes[h] / 281474976710656) as usize;
+    codegen_from_lists(
+        s,
+        nodes,
+        sections,
+        instrs,
+        numbers,
+        strings,
+        pool,
+        names,
+        node,
+        a,
+        (p % 64) as usize,
+        depth,
+        inner,
+        v,
+        (p / 64) as u16,
+        d,
+    )
+}
+
+// An Ite's lists of a and b statements, from node i on, and their join: they make v and w sections.
+fn codegen_from_lists(
+    s: &[u8],
+    nodes: &[u64],
+    sections: &mut [u64],
+    instrs: &mut [u64],
+    numbers: &mut [i64],
+    strings: &mut [u32],
+    pool: &mut [u8],
+    names: &mut [u16],
+    i: usize,
+    a: usize,
+    b: usize,
+    depth: usize,
+    link: Link,
+    v: u16,
+    w: u16,
+    c: Counters,
+) -> Counters
+    requires { ⌜ IteReady (now s) (now nodes) i a b depth (link .number) v w c (length (now instrs)) (length (now numbers)) (length (now strings)) (length (now pool)) (length (now names)) (length (now sections)) ⌝ }
+    ensures { λ r. ⌜ ((m : ℕ) (x y : Block) (j z : ℕ) → m ≤ 256 → HoldsB (now (nodes .entry)) (now (s .entry)) m a i x j → HoldsB (now (nodes .entry)) (now (s .entry)) m b j y z → IteDone m x y (link .linked) (link .number) v w (link .next .0) c (lent (now (instrs .entry)) (now (numbers .entry)) (now (strings .entry)) (now (pool .entry)) (now (names .entry))) (lent (now (instrs .exit)) (now (numbers .exit)) (now (strings .exit)) (now (pool .exit)) (now (names .exit))) (now (sections .entry)) (now (sections .exit)) r) ⌝ }
+{
+    let other = link.number + v;
+    let join = other + w;
+    let d = depth - 1;
+    let t = codegen_from_branch(
+        s,
+        nodes,
+        sections,
+        instrs,
+        numbers,
+        strings,
+        pool,
+        names,
+        i,
+        a,
+        d,
+        link.number,
+        Section(join),
+        c,
+    );
+    let e = codegen_from_branch(
+        s,
+        nodes,
+        sections,
+        instrs,
+        numbers,
+        strings,
+        pool,
+        names,
+        t.node,
+        b,
+        d,
+        other,
+        Section(join),
+        t.next,
+    );
+    let r = e.next;
+    let next = link.next;
+    let place = Place {
+        slot: join,
+        start: false,
+        linked: link.linked,
+        next,
+    };
+    put_section(sections, join, false, successor(place), r.at, r.at);
+    r
+}
+
+// An Ite's list, which goes on to the join; where it is empty it still makes a section.
+fn codegen_from_branch(
+    s: &[u8],
+    nodes: &[u64],
+    sections: &mut [u64],
+    instrs: &mut [u64],
+    numbers: &mut [i64],
+    strings: &mut [u32],
+    pool: &mut [u8],
+    names: &mut [u16],
+    i: usize,
+    count: usize,
+    depth: usize,
+    number: u16,
+    join: Section,
+    c: Counters,
+) -> Ended
+    requires { ⌜ BranchReady (now s) (now nodes) i count depth number c (length (now instrs)) (length (now numbers)) (length (now strings)) (length (now pool)) (length (now names)) (length (now sections)) × (count < 64) ⌝ }
+    ensures { λ r. ⌜ ((m : ℕ) (x : Block) (z : ℕ) → m ≤ 256 → HoldsB (now (nodes .entry)) (now (s .entry)) m count i x z → BranchDone m x z number (join .0) c (lent (now (instrs .entry)) (now (numbers .entry)) (now (strings .entry)) (now (pool .entry)) (now (names .entry))) (lent (now (instrs .exit)) (now (numbers .exit)) (now (strings .exit)) (now (pool .exit)) (now (names .exit))) (now (sections .entry)) (now (sections .exit)) (r .next) (r .node)) ⌝ }
+{
+    if count == 0 {
+        put_section(
+            sections,
+            number,
+            false,
+            SectionOrLine::Section(join),
+            c.at,
+            c.at,
+        );
+        return Ended { next: c, node: i };
+    }
+    let link = Link {
+        linked: true,
+        number,
+        next: join,
+    };
+    codegen_and_link_stmts(
+        s,
+        nodes,
+        sections,
+        instrs,
+        numbers,
+        strings,
+        pool,
+        names,
+        i,
+        count,
+        depth,
+        link,
+        c,
+    )
+}
+
+// A list of `count` statements from node i on: each goes on to the next, but for those behind a Goto.
+pub fn codegen_and_link_stmts(
+    s: &[u8],
+    nodes: &[u64],
+    sections: &mut [u64],
+    instrs: &mut [u64],
+    numbers: &mut [i64],
+    strings: &mut [u32],
+    pool: &mut [u8],
+    names: &mut [u16],
+    i: usize,
+    count: usize,
+    depth: usize,
+    link: Link,
+    c: Counters,
+) -> Ended
+    requires { ⌜ ListReady (now s) (now nodes) i count depth (link .number) c (length (now instrs)) (length (now numbers)) (length (now strings)) (length (now pool)) (length (now names)) (length (now sections)) ⌝ }
+    ensures { λ r. ⌜ ((m : ℕ) (x : Block) (z : ℕ) → m ≤ 256 → HoldsB (now (nodes .entry)) (now (s .entry)) m count i x z → ListDone m x z (link .linked) (link .number) (link .next .0) c (lent (now (instrs .entry)) (now (numbers .entry)) (now (strings .entry)) (now (pool .entry)) (now (names .entry))) (lent (now (instrs .exit)) (now (numbers .exit)) (now (strings .exit)) (now (pool .exit)) (now (names .exit))) (now (sections .entry)) (now (sections .exit)) (r .next) (r .node)) ⌝ }
+{
+    if count == 0 {
+        return Ended { next: c, node: i };
+    }
+    let w = nodes[i];
+    let first = first_link(w, count, link);
+    let d = codegen_from_stmt(
+        s,
+        nodes,
+        sections,
+        instrs,
+        numbers,
+        strings,
+        pool,
+        names,
+        i,
+        depth,
+        first,
+        c,
+    );
+    let others = rest_link(w, link);
+    let node = (w / 281474976710656) as usize;
+    codegen_and_link_stmts(
+        s,
+        nodes,
+        sections,
+        instrs,
+        numbers,
+        strings,
+        pool,
+        names,
+        node,
+        count - 1,
+        depth,
+        others,
+        d,
+    )
+}
