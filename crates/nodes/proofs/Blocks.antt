@@ -18,14 +18,14 @@ use Rattle.nodes.proofs.Exprs.{Same, op-small, pick-same, start-at, one
 -- ---- the kind of the first statement
 
 -- as the file numbers it; a word's is 8 more
-unfoldable tag : Block → ℕ
+unfoldable pub tag : Block → ℕ
 tag (goto e s) = 0
 tag (ite e x y s) = 1
 tag (Block.incdec f x s) = 2
 tag (assign x o e s) = 3
 tag end = 4
 
-kind-held : {t s : List ℕ} {m n i z : ℕ} {x : Block} → 0 < n → HoldsB t s m n i x z → getD t i 0 % 16 ≡ tag x + 8
+pub kind-held : {t s : List ℕ} {m n i z : ℕ} {x : Block} → 0 < n → HoldsB t s m n i x z → getD t i 0 % 16 ≡ tag x + 8
 unfolding tag
 kind-held h (at-end p q) = absurd (omega arith)
 kind-held h (at-goto p w q e xs) = kind-of _ _ _ _ _ _ _ (omega arith) w
