@@ -27,7 +27,7 @@ use Rattle.codegen.proofs.Lists.{sets-sets, map-append, length-map}
 use Rattle.stmts.specs.Makes.{Stored, Makes, made, jump, nothing}
 use Rattle.stmts.specs.Lists.{Wrote, only, rest, before, onward, onwardB, isEnd, Single, Listed, Lists, Branched, Branch}
 
-append-nil : {A : Type 0} (l : List A) → l ++ [] ≡ l
+pub append-nil : {A : Type 0} (l : List A) → l ++ [] ≡ l
 append-nil [] = refl
 append-nil (x ∷ l) = ap (λ m. x ∷ m) (append-nil l)
 
@@ -109,7 +109,7 @@ onward-same l (ite c t f xs) g = refl
 onward-same l (Block.incdec i x xs) g = refl
 onward-same l (assign x o e xs) g = refl
 
-nil-same : (x : Block) (g : CodegenData) → isNil (annotateStmts x g .0) ≡ isEnd x
+pub nil-same : (x : Block) (g : CodegenData) → isNil (annotateStmts x g .0) ≡ isEnd x
 unfolding annotateStmts
 nil-same end g = refl
 nil-same (Block.goto e xs) g = refl
@@ -205,7 +205,7 @@ branch-list x {n} {j} {c} {c'} {t} {t'} {se} {se'} h d =
     chosen : (y : Bool) (a s : List SectionCode) → y ≡ false → Wrote s n (c .at) (c' .at) (t .instrs) (t' .instrs) se se' → Wrote (cond y a s) n (c .at) (c' .at) (t .instrs) (t' .instrs) se se'
     chosen y a s e w = rw e w
 
-ite-sections : (l : Bool) (e n k nf nj : ℕ) (o : List Instruction) (r : ℕ) (x y : Stmts) (z : Bool) → isNil x ≡ z → suc n + orOne x (sectionsMade x) ≡ nf → nf + orOne y (sectionsMade y) ≡ nj
+pub ite-sections : (l : Bool) (e n k nf nj : ℕ) (o : List Instruction) (r : ℕ) (x y : Stmts) (z : Bool) → isNil x ≡ z → suc n + orOne x (sectionsMade x) ≡ nf → nf + orOne y (sectionsMade y) ≡ nj
     → stmtSections l e n k (Stmts.ite o r x y nil) ≡ (made false (jump z (suc n)) (λ _. section nf) e (o, r) ∷ []) ++ (orEmpty x nj (stmtSections true e (suc n) nj x) ++ (orEmpty y nj (stmtSections true e nf nj y) ++ (inner [] (link l k) ∷ [])))
 ite-sections l e n k nf nj o r x y z h p q = rw (← q, ← p, ← h)
 

@@ -51,7 +51,7 @@ fn made(w: u64) -> u16
 }
 
 // The place of a list's first statement: it goes on to the others, if there are any.
-fn first_link(w: u64, count: usize, link: Link) -> Link
+pub fn first_link(w: u64, count: usize, link: Link) -> Link
     requires { ⌜ link .number + madeBy w ≤ 65535 ⌝ }
     ensures linked { λ r. ⌜ r .linked ≡ link .linked ⌝ }
     ensures number { λ r. ⌜ r .number ≡ link .number ⌝ }
@@ -69,7 +69,7 @@ fn first_link(w: u64, count: usize, link: Link) -> Link
 }
 
 // The place of the others: behind a Goto they are not linked.
-fn rest_link(w: u64, link: Link) -> Link
+pub fn rest_link(w: u64, link: Link) -> Link
     requires { ⌜ link .number + madeBy w ≤ 65535 ⌝ }
     ensures linked { λ r. ⌜ r .linked ≡ linkedBy w (link .linked) ⌝ }
     ensures number { λ r. ⌜ r .number ≡ link .number + madeBy w ⌝ }
@@ -245,7 +245,7 @@ fn codegen_from_ite(
 }
 
 // An Ite's lists of a and b statements, from node i on, and their join: they make v and w sections.
-fn codegen_from_lists(
+pub fn codegen_from_lists(
     s: &[u8],
     nodes: &[u64],
     sections: &mut [u64],

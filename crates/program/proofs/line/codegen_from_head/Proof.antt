@@ -1,0 +1,294 @@
+use Rattle.program.proofs.Firsts.{headed-goto, headed-step, headed-assign, headed-ite}
+use Rattle.stmts.proofs.Places.{goto-at, step-at, assign-at, ite-at, else-ite, ite-sum, goto-sum, assign-sum, step-sum, empty-same}
+use Rattle.stmts.proofs.Splits.{split}
+use Rattle.rules.specs.Bits.{isOne}
+use native.Mathlib.Omega.{arith}
+use native.Mathlib.Numerals.{add-one}
+use Prim.Native.Nat.{ℕ, _+_}
+use mathlib.Core.Path.{_≡_, refl, sym, ap, _∙_}
+use borrow.Author.Needs.{needs}
+use Rattle.program.proofs.line.codegen_from_head.Statement.{statement}
+use Rattle.program.proofs.line.codegen_from_head.Tie as tie
+use Rattle.program.proofs.line.codegen_from_head.Reads as reads
+use Rattle.program.proofs.line.codegen_from_head.Lts as lts
+use Rattle.stmts.proofs.sections.codegen_from_goto.Reads as codegen-from-goto-reads
+use Rattle.stmts.proofs.sections.codegen_from_set.Reads as codegen-from-set-reads
+use Rattle.stmts.proofs.sections.codegen_from_step.Reads as codegen-from-step-reads
+use Rattle.stmts.proofs.sections.codegen_from_test.Reads as codegen-from-test-reads
+
+-- src/line.rt:44:13
+mul-w : tie.Need-mul-w
+mul-w c =
+    let p = c .before .before .before .before .before .before .before .pre .0 in
+    let am = p .ample in
+    let ins = p .inside in
+    let sl = c .before .before .before .before .before .before .before .pre .1 in
+    let sp = split (p .short) (p .few) (omega arith) (p .held) in
+    let s1 = sp .first in
+    let s2 = sp .second in
+    omega arith
+
+-- src/line.rt:44:13
+shared-slice-read-w : tie.Need-shared-slice-read-w
+shared-slice-read-w c =
+    let p = c .before .before .before .before .before .before .before .before .pre .0 in
+    let am = p .ample in
+    let ins = p .inside in
+    let sl = c .before .before .before .before .before .before .before .before .pre .1 in
+    let sp = split (p .short) (p .few) (omega arith) (p .held) in
+    let s1 = sp .first in
+    let s2 = sp .second in
+    omega arith
+
+-- src/line.rt:46:13
+add-h : tie.Need-add-h
+add-h c =
+    let p = c .before .before .before .before .before .before .before .before .pre .0 in
+    let am = p .ample in
+    let ins = p .inside in
+    let sl = c .before .before .before .before .before .before .before .before .pre .1 in
+    let sp = split (p .short) (p .few) (omega arith) (p .held) in
+    let s1 = sp .first in
+    let s2 = sp .second in
+    let d = c .before .before .before .before .before .before .before .before .good .1 .0 in
+    omega arith
+
+-- src/line.rt:56:9
+codegen-from-goto-requires : tie.Need-codegen-from-goto-requires
+codegen-from-goto-requires c κs =
+    let p = c .before .before .before .before .before .before .before .before .before .before .before .before .before .before .before .before .pre .0 in
+    let am = p .ample in
+    let ins = p .inside in
+    let sl = c .before .before .before .before .before .before .before .before .before .before .before .before .before .before .before .before .pre .1 in
+    let b = goto-at (p .held) (c .before .before .before .before .before .before .if1 .taken) in
+    let y = goto-sum (b .e) _ (b .is) in
+    (record { names = p .known; tree = b .e; last = p .last; held = b .to; inside = omega arith; short = p .short; few = p .few; fits = record { room = omega arith; strings = omega arith; strings-fit = omega arith; chars = omega arith; chars-fit = omega arith; names = omega arith }; room = omega arith }, sl, am .small)
+
+-- src/line.rt:56:9
+same-length : tie.Need-same-length
+same-length c = search needs
+
+-- src/line.rt:56:9
+same-length-2 : tie.Need-same-length-2
+same-length-2 c = search needs
+
+-- src/line.rt:56:9
+same-length-3 : tie.Need-same-length-3
+same-length-3 c = search needs
+
+-- src/line.rt:56:9
+same-length-4 : tie.Need-same-length-4
+same-length-4 c = search needs
+
+-- src/line.rt:56:9
+same-length-5 : tie.Need-same-length-5
+same-length-5 c = search needs
+
+-- src/line.rt:56:9
+same-length-6 : tie.Need-same-length-6
+same-length-6 c = search needs
+
+-- src/line.rt:56:9
+returns : tie.Need-returns
+returns c =
+    λ m x z h q.
+    let b = goto-at q (c .before .before .before .before .before .before .before .before .before .before .before .before .before .before .before .before .before .before .if1 .taken) in
+    rw (b .is) (headed-goto (b .e) (c .before .before .before .before .before .before .before .before .before .before .before .codegen-from-goto .ensures m _ _ h (b .to) .0))
+
+-- src/line.rt:59:9
+codegen-from-step-requires : tie.Need-codegen-from-step-requires
+codegen-from-step-requires c κs =
+    let p = c .before .before .before .before .before .before .before .before .before .before .before .before .before .before .pre .0 in
+    let am = p .ample in
+    let ins = p .inside in
+    let sl = c .before .before .before .before .before .before .before .before .before .before .before .before .before .before .pre .1 in
+    let b = step-at (p .few) (p .held) (c .before .before .before .if2 .taken) in
+    let y = step-sum _ _ _ (b .is) in
+    let kn = b .known in
+    (omega arith, omega arith, omega arith, sl, omega arith)
+
+-- src/line.rt:59:9
+same-length-7 : tie.Need-same-length-7
+same-length-7 c = search needs
+
+-- src/line.rt:59:9
+same-length-8 : tie.Need-same-length-8
+same-length-8 c = search needs
+
+-- src/line.rt:59:9
+same-length-9 : tie.Need-same-length-9
+same-length-9 c = search needs
+
+-- src/line.rt:59:9
+returns-2 : tie.Need-returns-2
+unfolding isOne
+returns-2 c =
+    λ m x z h q.
+    let b = step-at h q (c .before .before .before .before .before .before .before .before .before .before .if2 .taken) in
+    rw (b .is) (headed-step _ _ (c .before .before .before .before .before .before .codegen-from-step .ensures m _ _ _ (b .known) .0))
+
+-- src/line.rt:62:9
+codegen-from-set-requires : tie.Need-codegen-from-set-requires
+codegen-from-set-requires c κs =
+    let p = c .before .before .before .before .before .before .before .before .before .before .before .before .before .before .before .before .before .before .pre .0 in
+    let am = p .ample in
+    let ins = p .inside in
+    let sl = c .before .before .before .before .before .before .before .before .before .before .before .before .before .before .before .before .before .before .pre .1 in
+    let b = assign-at (p .few) (p .held) (c .before .before .before .before .before .before .if3 .taken) in
+    let y = assign-sum _ _ (b .e) _ (b .is) in
+    (record { holding = record { names = p .known; tree = b .e; last = p .last; held = b .value; inside = omega arith; short = p .short; few = p .few; fits = record { room = omega arith; strings = omega arith; strings-fit = omega arith; chars = omega arith; chars-fit = omega arith; names = omega arith }; room = omega arith }; known = b .known }, b .small, sl, am .small)
+
+-- src/line.rt:62:9
+same-length-10 : tie.Need-same-length-10
+same-length-10 c = search needs
+
+-- src/line.rt:62:9
+same-length-11 : tie.Need-same-length-11
+same-length-11 c = search needs
+
+-- src/line.rt:62:9
+same-length-12 : tie.Need-same-length-12
+same-length-12 c = search needs
+
+-- src/line.rt:62:9
+same-length-13 : tie.Need-same-length-13
+same-length-13 c = search needs
+
+-- src/line.rt:62:9
+same-length-14 : tie.Need-same-length-14
+same-length-14 c = search needs
+
+-- src/line.rt:62:9
+same-length-15 : tie.Need-same-length-15
+same-length-15 c = search needs
+
+-- src/line.rt:62:9
+returns-3 : tie.Need-returns-3
+returns-3 c =
+    λ m x z h q.
+    let b = assign-at h q (c .before .before .before .before .before .before .before .before .before .before .before .before .before .before .before .before .before .before .if3 .taken) in
+    rw (b .is) (headed-assign _ _ (b .e) (c .before .before .before .before .before .before .before .before .before .before .before .codegen-from-set .ensures m _ _ h (b .known) (b .value) .0))
+
+-- src/line.rt:64:13
+cast-v : tie.Need-cast-v
+cast-v c = search needs
+
+-- src/line.rt:65:17
+add-first : tie.Need-add-first
+add-first c =
+    let p = c .before .before .before .before .before .before .before .before .before .before .before .before .before .pre .0 in
+    let am = p .ample in
+    let ins = p .inside in
+    let sl = c .before .before .before .before .before .before .before .before .before .before .before .before .before .pre .1 in
+    let kd = else-ite (p .held) (c .before .before .before .if1 .left) (c .before .before .if2 .left) (c .before .if3 .left) in
+    let it = ite-at (p .short) (p .few) (p .held) kd in
+    let sm = ite-sum (it .e) (it .yes) (it .no) _ (it .is) in
+    let i1 = it .first in
+    let i2 = it .second in
+    let i3 = it .third in
+    let w1 = it .width-then in
+    omega arith
+
+-- src/line.rt:66:25
+add-t64 : tie.Need-add-t64
+add-t64 c =
+    let p = c .before .before .before .before .before .before .before .before .before .before .before .before .before .pre .0 in
+    let am = p .ample in
+    let ins = p .inside in
+    let sl = c .before .before .before .before .before .before .before .before .before .before .before .before .before .pre .1 in
+    let kd = else-ite (p .held) (c .before .before .before .if1 .left) (c .before .before .if2 .left) (c .before .if3 .left) in
+    let it = ite-at (p .short) (p .few) (p .held) kd in
+    let sm = ite-sum (it .e) (it .yes) (it .no) _ (it .is) in
+    let i1 = it .first in
+    let i2 = it .second in
+    let i3 = it .third in
+    let w1 = it .width-then in
+    omega arith
+
+-- src/line.rt:73:5
+codegen-from-test-requires : tie.Need-codegen-from-test-requires
+codegen-from-test-requires c κs =
+    let p = c .before .before .before .before .before .before .before .before .before .before .before .before .before .before .before .before .before .before .before .pre .0 in
+    let am = p .ample in
+    let ins = p .inside in
+    let sl = c .before .before .before .before .before .before .before .before .before .before .before .before .before .before .before .before .before .before .before .pre .1 in
+    let kd = else-ite (p .held) (c .before .before .before .before .before .before .before .before .before .if1 .left) (c .before .before .before .before .before .before .before .before .if2 .left) (c .before .before .before .before .before .before .before .if3 .left) in
+    let it = ite-at (p .short) (p .few) (p .held) kd in
+    let sm = ite-sum (it .e) (it .yes) (it .no) _ (it .is) in
+    let i1 = it .first in
+    let i2 = it .second in
+    let i3 = it .third in
+    let w1 = it .width-then in
+    (record { names = p .known; tree = it .e; last = _; held = it .test; inside = omega arith; short = p .short; few = p .few; fits = record { room = omega arith; strings = omega arith; strings-fit = omega arith; chars = omega arith; chars-fit = omega arith; names = omega arith }; room = omega arith }, sl, am .small)
+
+-- src/line.rt:26:1
+same-length-16 : tie.Need-same-length-16
+same-length-16 c = search needs
+
+-- src/line.rt:26:1
+same-length-17 : tie.Need-same-length-17
+same-length-17 c = search needs
+
+-- src/line.rt:26:1
+same-length-18 : tie.Need-same-length-18
+same-length-18 c = search needs
+
+-- src/line.rt:26:1
+same-length-19 : tie.Need-same-length-19
+same-length-19 c = search needs
+
+-- src/line.rt:26:1
+same-length-20 : tie.Need-same-length-20
+same-length-20 c = search needs
+
+-- src/line.rt:26:1
+same-length-21 : tie.Need-same-length-21
+same-length-21 c = search needs
+
+-- src/line.rt:26:1
+returns-4 : tie.Need-returns-4
+returns-4 c =
+    λ m x z h q.
+    let p = c .before .before .before .before .before .before .before .before .before .before .before .before .before .before .before .before .before .before .before .before .before .before .before .before .before .before .before .before .before .before .before .pre .0 in
+    let it = ite-at (p .short) h q (else-ite q (c .before .before .before .before .before .before .before .before .before .before .before .before .before .before .before .before .before .before .before .before .before .if1 .left) (c .before .before .before .before .before .before .before .before .before .before .before .before .before .before .before .before .before .before .before .before .if2 .left) (c .before .before .before .before .before .before .before .before .before .before .before .before .before .before .before .before .before .before .before .if3 .left)) in
+    rw (it .is) (headed-ite (it .e) (it .yes) (it .no) (add-one _) (empty-same (it .then-held)) (ap (λ (k : ℕ). c .before .before .before .before .before .before .before .before .before .before .before .before .before .before .before .before .before .before .before .before .before .before .before .before .before .before .before .before .before .before .before .args .link .number + 1 + k) (it .width-then)) (c .before .before .before .before .before .before .before .before .before .before .before .codegen-from-test .ensures m _ _ h (it .test) .0))
+
+pub codegen-from-head-spec : {M : Type 1} → statement M
+codegen-from-head-spec =
+    tie.close
+    (tie.spec
+    mul-w
+    shared-slice-read-w
+    add-h
+    codegen-from-goto-requires
+    same-length
+    same-length-2
+    same-length-3
+    same-length-4
+    same-length-5
+    same-length-6
+    returns
+    codegen-from-step-requires
+    same-length-7
+    same-length-8
+    same-length-9
+    returns-2
+    codegen-from-set-requires
+    same-length-10
+    same-length-11
+    same-length-12
+    same-length-13
+    same-length-14
+    same-length-15
+    returns-3
+    cast-v
+    add-first
+    add-t64
+    codegen-from-test-requires
+    same-length-16
+    same-length-17
+    same-length-18
+    same-length-19
+    same-length-20
+    same-length-21
+    returns-4)
