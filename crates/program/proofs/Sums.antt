@@ -168,11 +168,11 @@ module _ {t s : List ℕ} {m i z : ℕ} {x : Block} (a : length s ≤ mostBytes)
       let g = b .flag .last in
       sym (f .here) ∙ g
 
-  by-kind : (getD t i 0 % 16 ≡ iteKind → ⊥) → getD t i 0 % 16 ≡ tag x → costs t i (z - i) ≡ ownCost x
+  by-kind : (getD t i 0 % 16 ≡ iteKind → ⊥) → getD t i 0 % 16 ≡ tag x + 8 → costs t i (z - i) ≡ ownCost x
   unfolding tag
   by-kind k q = go x (sym q) (not-end h (λ y. omega arith))
     where
-      go : (y : Block) → tag y ≡ getD t i 0 % 16 → isEnd y ≡ false → costs t i (z - i) ≡ ownCost x
+      go : (y : Block) → tag y + 8 ≡ getD t i 0 % 16 → isEnd y ≡ false → costs t i (z - i) ≡ ownCost x
       go end e n = absurd (let w : _≡_ {A = ℕ} 0 1 = cc in omega arith)
       go (Block.goto v xs) e n = goto-cost (sym e)
       go (ite v y w xs) e n = absurd (k (sym e))

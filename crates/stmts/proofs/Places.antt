@@ -172,7 +172,7 @@ pub else-ite : {t s : List ℕ} {m i z : ℕ} {x : Block} → HoldsB t s m 1 i x
 unfolding tag
 else-ite {t} {i = i} {x = x} h a b c = by x (isEnd x) refl (not-end h (λ z. omega arith)) (kind-held (omega arith) h)
   where
-    by : (y : Block) (v : Bool) → v ≡ isEnd y → isEnd y ≡ false → getD t i 0 % 16 ≡ tag y → getD t i 0 % 16 ≡ iteKind
+    by : (y : Block) (v : Bool) → v ≡ isEnd y → isEnd y ≡ false → getD t i 0 % 16 ≡ tag y + 8 → getD t i 0 % 16 ≡ iteKind
     by end v o n z = absurd (let q : _≡_ {A = ℕ} 0 1 = cc in omega arith)
     by (goto e xs) v o n z = absurd (a z)
     by (ite e y w xs) v o n z = z
