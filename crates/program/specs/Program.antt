@@ -12,7 +12,7 @@ use Rattle.tree.specs.Files.{HoldsTree, Placed, widths}
 use Rattle.program.specs.declared.options.CodegenOptions.{CodegenOptions}
 
 abbrev pub optionsTold : CodegenOptions → Options
-optionsTold o = record { locals = o .protect_locals; globals = o .protect_globals }
+optionsTold o = record { locals = o .«protect_locals»; globals = o .«protect_globals» }
 
 -- words from the start of a table on
 abbrev pub over : {A : Type 0} → List A → List A → List A
