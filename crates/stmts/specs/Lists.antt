@@ -143,11 +143,12 @@ pub record SpentAll (k : Tally) (c c' : Counters) : Type 0 where
   pub strings : c' .strings ≡ c .strings + k .strings
   pub chars : c' .chars ≡ c .chars + k .characters
 
--- the list x is lowered, and its nodes end at z
-pub record ListDone (m : ℕ) (x : Block) (z : ℕ) (l : Bool) (n k : ℕ) (c : Counters) (t t' : Lent) (se se' : List ℕ) (c' : Counters) (node : ℕ) : Type 0 where
+-- the list x is lowered; its nodes end at z, its sections at a number
+pub record ListDone (m : ℕ) (x : Block) (z : ℕ) (l : Bool) (n k : ℕ) (c : Counters) (t t' : Lent) (se se' : List ℕ) (c' : Counters) (node number : ℕ) : Type 0 where
   pub does : Lists m x l n k c t t' se se' c'
   pub spent : SpentAll (ofBlock x) c c'
   pub node-is : node ≡ z
+  pub number-is : number ≡ n + width x
 
 pub record BranchDone (m : ℕ) (x : Block) (z : ℕ) (n j : ℕ) (c : Counters) (t t' : Lent) (se se' : List ℕ) (c' : Counters) (node : ℕ) : Type 0 where
   pub does : Branch m x n j c t t' se se' c'

@@ -10,6 +10,7 @@ ghost use lib.ListN.{length, getD};
 ghost use Rattle.nodes.specs.Words.{iteKind};
 ghost use Rattle.rules.specs.Tree.{Block};
 ghost use Rattle.nodes.specs.Holds.{HoldsB};
+ghost use Rattle.nodes.specs.Width.{width};
 ghost use Rattle.codegen.specs.Does.{lent};
 ghost use Rattle.stmts.specs.Lists.{madeBy, linkedBy, entryBy, ListReady, ListDone, BranchReady, BranchDone, IteReady, IteDone};
 use crate::sections::Place;
@@ -34,10 +35,11 @@ pub struct Link {
     pub next: Section,
 }
 
-// The counters behind a list, and the node behind it.
+// The counters behind a list, the node behind it, and the number behind its sections.
 pub struct Ended {
     pub next: Counters,
     pub node: usize,
+    pub number: u16,
 }
 
 // How many sections the statement with the word w makes.
@@ -107,7 +109,7 @@ pub fn codegen_from_stmt(
     c: Counters,
 ) -> Counters
     requires { ⌜ ListReady (now s) (now nodes) i 1 depth (link .number) c (length (now instrs)) (length (now numbers)) (length (now strings)) (length (now pool)) (length (now names)) (length (now sections)) ⌝ }
-    ensures { λ r. ⌜ ((m : ℕ) (x : Block) (z : ℕ) → m ≤ 256 → HoldsB (now (nodes .entry)) (now (s .entry)) m 1 i x z → ListDone m x z (link .linked) (link .number) (link .next .0) c (lent (now (instrs .entry)) (now (numbers .entry)) (now (strings .entry)) (now (pool .entry)) (now (names .entry))) (lent (now (instrs .exit)) (now (numbers .exit)) (now (strings .exit)) (now (pool .exit)) (now (names .exit))) (now (sections .entry)) (now (sections .exit)) r z) ⌝ }
+    ensures { λ r. ⌜ ((m : ℕ) (x : Block) (z : ℕ) → m ≤ 256 → HoldsB (now (nodes .entry)) (now (s .entry)) m 1 i x z → ListDone m x z (link .linked) (link .number) (link .next .0) c (lent (now (instrs .entry)) (now (numbers .entry)) (now (strings .entry)) (now (pool .entry)) (now (names .entry))) (lent (now (instrs .exit)) (now (numbers .exit)) (now (strings .exit)) (now (pool .exit)) (now (names .exit))) (now (sections .entry)) (now (sections .exit)) r z (link .number + width x)) ⌝ }
 {
     let w = nodes[i];
     let kind = w % 16;
@@ -187,7 +189,7 @@ fn codegen_from_ite(
     c: Counters,
 ) -> Counters
     requires { ⌜ ListReady (now s) (now nodes) i 1 depth (link .number) c (length (now instrs)) (length (now numbers)) (length (now strings)) (length (now pool)) (length (now names)) (length (now sections)) × (getD (now nodes) i 0 % 16 ≡ iteKind) ⌝ }
-    ensures { λ r. ⌜ ((m : ℕ) (x : Block) (z : ℕ) → m ≤ 256 → HoldsB (now (nodes .entry)) (now (s .entry)) m 1 i x z → ListDone m x z (link .linked) (link .number) (link .next .0) c (lent (now (instrs .entry)) (now (numbers .entry)) (now (strings .entry)) (now (pool .entry)) (now (names .entry))) (lent (now (instrs .exit)) (now (numbers .exit)) (now (strings .exit)) (now (pool .exit)) (now (names .exit))) (now (sections .entry)) (now (sections .exit)) r z) ⌝ }
+    ensures { λ r. ⌜ ((m : ℕ) (x : Block) (z : ℕ) → m ≤ 256 → HoldsB (now (nodes .entry)) (now (s .entry)) m 1 i x z → ListDone m x z (link .linked) (link .number) (link .next .0) c (lent (now (instrs .entry)) (now (numbers .entry)) (now (strings .entry)) (now (pool .entry)) (now (names .entry))) (lent (now (instrs .exit)) (now (numbers .exit)) (now (strings .exit)) (now (pool .exit)) (now (names .exit))) (now (sections .entry)) (now (sections .exit)) r z (link .number + width x)) ⌝ }
 {
     let w = nodes[i];
     let h = i + 1;
@@ -342,7 +344,11 @@ fn codegen_from_branch(
             c.at,
             c.at,
         );
-        return Ended { next: c, node: i };
+        return Ended {
+            next: c,
+            node: i,
+            number: number + 1,
+        };
     }
     let link = Link {
         linked: true,
@@ -383,10 +389,14 @@ pub fn codegen_and_link_stmts(
     c: Counters,
 ) -> Ended
     requires { ⌜ ListReady (now s) (now nodes) i count depth (link .number) c (length (now instrs)) (length (now numbers)) (length (now strings)) (length (now pool)) (length (now names)) (length (now sections)) ⌝ }
-    ensures { λ r. ⌜ ((m : ℕ) (x : Block) (z : ℕ) → m ≤ 256 → HoldsB (now (nodes .entry)) (now (s .entry)) m count i x z → ListDone m x z (link .linked) (link .number) (link .next .0) c (lent (now (instrs .entry)) (now (numbers .entry)) (now (strings .entry)) (now (pool .entry)) (now (names .entry))) (lent (now (instrs .exit)) (now (numbers .exit)) (now (strings .exit)) (now (pool .exit)) (now (names .exit))) (now (sections .entry)) (now (sections .exit)) (r .next) (r .node)) ⌝ }
+    ensures { λ r. ⌜ ((m : ℕ) (x : Block) (z : ℕ) → m ≤ 256 → HoldsB (now (nodes .entry)) (now (s .entry)) m count i x z → ListDone m x z (link .linked) (link .number) (link .next .0) c (lent (now (instrs .entry)) (now (numbers .entry)) (now (strings .entry)) (now (pool .entry)) (now (names .entry))) (lent (now (instrs .exit)) (now (numbers .exit)) (now (strings .exit)) (now (pool .exit)) (now (names .exit))) (now (sections .entry)) (now (sections .exit)) (r .next) (r .node) (r .number)) ⌝ }
 {
     if count == 0 {
-        return Ended { next: c, node: i };
+        return Ended {
+            next: c,
+            node: i,
+            number: link.number,
+        };
     }
     let w = nodes[i];
     let first = first_link(w, count, link);

@@ -162,11 +162,11 @@ abbrev claims-codegen-from-stmt : ℕ → codegen-from-stmt-lts.Claims
 claims-codegen-from-stmt t = (codegen-from-goto-reads.Asked, codegen-from-goto-reads.Learnt, codegen-from-step-reads.Asked, codegen-from-step-reads.Learnt, codegen-from-set-reads.Asked, codegen-from-set-reads.Learnt, codegen-from-ite-below t, codegen-from-ite.Post)
 
 codegen-and-link-stmts-returns : (t : ℕ) → codegen-and-link-stmts-lts.Need-returns (claims-codegen-and-link-stmts t) (codegen-and-link-stmts-at t) codegen-and-link-stmts.Post
-unfolding ofBlock none
+unfolding ofBlock none width
 codegen-and-link-stmts-returns t c =
     λ m x z h q.
     let e = is-end q (c .if1 .taken) in
-    rw (e .is) (record { does = lists-none; spent = record { at = omega arith; numbers = omega arith; values = omega arith; strings = omega arith; chars = omega arith }; node-is = e .here })
+    rw (e .is) (record { does = lists-none; spent = record { at = omega arith; numbers = omega arith; values = omega arith; strings = omega arith; chars = omega arith }; node-is = e .here; number-is = omega arith })
 
 codegen-and-link-stmts-mul-w : (t : ℕ) → codegen-and-link-stmts-lts.Need-mul-w (claims-codegen-and-link-stmts t) (codegen-and-link-stmts-at t) codegen-and-link-stmts.Post
 codegen-and-link-stmts-mul-w t c =
@@ -375,6 +375,7 @@ codegen-and-link-stmts-returns-2 t c =
           (rw (f .0, f .1 .0) at (st .does)) (rw (g .1 .1) at (re .does));
       spent = record { at = omega arith; numbers = omega arith; values = omega arith; strings = omega arith; chars = omega arith };
       node-is = re .node-is;
+      number-is = omega (arith, re .number-is, g .1 .0, sp .made, pa .widths);
     }
 
 codegen-from-branch-put-section-requires :
@@ -384,6 +385,13 @@ codegen-from-branch-put-section-requires t c κs =
     let am = p .ample in
     let o = or-one (width (p .block)) .some in
     (omega arith, omega arith, omega arith)
+
+codegen-from-branch-add-t21 : (t : ℕ) → codegen-from-branch-lts.Need-add-t21 (claims-codegen-from-branch t) (codegen-from-branch-at t) codegen-from-branch.Post
+codegen-from-branch-add-t21 t c =
+    let p = c .before .before .before .before .before .before .before .before .before .before .before .before .pre .1 .0 in
+    let am = p .ample in
+    let o = or-one (width (p .block)) .some in
+    omega arith
 
 codegen-from-branch-same-length : (t : ℕ) → codegen-from-branch-lts.Need-same-length (
   put-section-reads.Asked,
@@ -701,6 +709,7 @@ codegen-from-ite-returns t c =
       does = ite-lists (it .e) (it .yes) (it .no) refl (empty-same (it .then-held)) (ap (λ (k : ℕ). c .before .before .before .before .before .before .before .before .before .before .before .before .before .before .before .before .before .before .before .before .before .before .before .before .before .before .before .before .before .before .before .before .before .before .before .before .before .before .before .before .before .before .before .before .before .before .before .args .link .number + 1 + k) (it .width-then)) (ap (λ (k : ℕ). c .before .before .before .before .before .before .before .before .before .before .before .before .before .before .before .before .before .before .before .before .before .before .before .before .before .before .before .before .before .before .before .before .before .before .before .before .before .before .before .before .before .before .before .before .before .before .before .args .link .number + 1 + getD (c .before .before .before .before .before .before .before .before .before .before .before .before .before .before .before .before .before .before .before .before .before .before .before .before .before .before .before .before .before .before .before .before .before .before .before .before .before .before .before .before .before .before .before .before .before .before .before .args .nodes .now) (c .before .before .before .before .before .before .before .before .before .before .before .before .before .before .before .before .before .before .before .before .before .before .before .before .before .before .before .before .before .before .before .before .before .before .before .before .before .before .before .before .before .before .before .before .before .before .before .args .i) 0 / 34359738368 % 8192 + k) (it .width-else)) (ts .0) (ls .yes) (ls .no) (ls .join);
       spent = record { at = omega arith; numbers = omega arith; values = omega arith; strings = omega arith; chars = omega arith };
       node-is = refl;
+      number-is = refl;
     })
 
 codegen-from-lists-add-other : (t : ℕ) → codegen-from-lists-lts.Need-add-other (claims-codegen-from-lists t) (codegen-from-lists-at t) codegen-from-lists.Post
@@ -918,7 +927,7 @@ codegen-from-stmt-returns t c =
     let r = c .before .before .before .before .before .before .before .before .before .before .before .codegen-from-goto .ensures m _ _ h (b .to) in
     let s = r .1 in
     let k = expr-most (b .e) in
-    rw (b .is) (record { does = lists-goto (b .e) (r .0); spent = record { at = omega arith; numbers = omega arith; values = omega arith; strings = omega arith; chars = omega arith }; node-is = refl })
+    rw (b .is) (record { does = lists-goto (b .e) (r .0); spent = record { at = omega arith; numbers = omega arith; values = omega arith; strings = omega arith; chars = omega arith }; node-is = refl; number-is = refl })
 
 codegen-from-stmt-codegen-from-step-requires :
     (t : ℕ) → codegen-from-stmt-lts.Need-codegen-from-step-requires (
@@ -959,7 +968,7 @@ codegen-from-stmt-returns-2 t c =
     let b = step-at h q (c .before .before .before .before .before .before .before .before .before .before .if2 .taken) in
     let r = c .before .before .before .before .before .before .codegen-from-step .ensures m _ _ _ (b .known) in
     let s = r .1 in
-    rw (b .is) (record { does = lists-step _ _ (r .0); spent = record { at = omega arith; numbers = omega arith; values = omega arith; strings = omega arith; chars = omega arith }; node-is = refl })
+    rw (b .is) (record { does = lists-step _ _ (r .0); spent = record { at = omega arith; numbers = omega arith; values = omega arith; strings = omega arith; chars = omega arith }; node-is = refl; number-is = refl })
 
 codegen-from-stmt-codegen-from-set-requires :
     (t : ℕ) → codegen-from-stmt-lts.Need-codegen-from-set-requires (
@@ -1013,7 +1022,7 @@ codegen-from-stmt-returns-3 t c =
     let s = r .1 in
     let k = expr-most (b .e) in
     let o = assign-most (getD assignops (getD (c .before .before .before .before .before .before .before .before .before .before .before .before .before .before .before .before .before .before .before .before .before .before .before .before .before .before .before .before .before .before .args .nodes .now) (c .before .before .before .before .before .before .before .before .before .before .before .before .before .before .before .before .before .before .before .before .before .before .before .before .before .before .before .before .before .before .args .i) 0 / 16 % 16) PowTo) in
-    rw (b .is) (record { does = lists-assign _ _ (b .e) (r .0); spent = record { at = omega arith; numbers = omega arith; values = omega arith; strings = omega arith; chars = omega arith }; node-is = refl })
+    rw (b .is) (record { does = lists-assign _ _ (b .e) (r .0); spent = record { at = omega arith; numbers = omega arith; values = omega arith; strings = omega arith; chars = omega arith }; node-is = refl; number-is = refl })
 
 codegen-from-stmt-codegen-from-ite-requires :
     (t : ℕ) → codegen-from-stmt-lts.Need-codegen-from-ite-requires (
@@ -1090,6 +1099,7 @@ pub +codegen-and-link-stmts+codegen-from-branch+codegen-from-ite+codegen-from-li
     (codegen-from-branch-at t)
     codegen-from-branch.Post
     (codegen-from-branch-put-section-requires t)
+    (codegen-from-branch-add-t21 t)
     (codegen-from-branch-same-length t)
     (codegen-from-branch-returns t)
     (codegen-from-branch-codegen-and-link-stmts-requires t)
