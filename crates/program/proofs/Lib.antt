@@ -1,3 +1,4 @@
-pub mod Sums
 pub mod Firsts
+pub mod Lines
 pub mod Runs
+pub mod Sums

@@ -122,7 +122,7 @@ whole-sum t i j k n p q h = let e : j ≡ k = omega arith in rw e h
 node-expr : (t : List ℕ) (i j c e : ℕ) → i + 1 ≤ j → nodeCost (getD t i 0) ≡ c → costs t (i + 1) (j - (i + 1)) ≡ e → costs t i (j - i) ≡ e + c
 node-expr t i j c e h p q = omega (arith, node-two t i j j h (omega arith), nothing t j)
 
-own-only : (x : Block) → ownCost (only x) ≡ ownCost x
+pub own-only : (x : Block) → ownCost (only x) ≡ ownCost x
 unfolding ownCost only
 own-only end = refl
 own-only (Block.goto e xs) = refl

@@ -280,9 +280,10 @@ pub fn codegen_from_line(
         rest_link(w, link),
         e,
     );
+    let end = r.next;
     LineEnd {
         head: d.at,
-        next: r.next,
+        next: end,
         number: r.number,
     }
 }

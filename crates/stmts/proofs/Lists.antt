@@ -33,17 +33,17 @@ append-nil (x ∷ l) = ap (λ m. x ∷ m) (append-nil l)
 
 -- ---- sections in the tables
 
-all-append : (a b : List SectionCode) → allCode (a ++ b) ≡ allCode a ++ allCode b
+pub all-append : (a b : List SectionCode) → allCode (a ++ b) ≡ allCode a ++ allCode b
 unfolding allCode
 all-append [] b = refl
 all-append (s ∷ a) b = rw (all-append a b, append-assoc)
 
-runs-append : (k : ℕ) (a b : List SectionCode) → runWords k (a ++ b) ≡ runWords k a ++ runWords (k + length (allCode a)) b
+pub runs-append : (k : ℕ) (a b : List SectionCode) → runWords k (a ++ b) ≡ runWords k a ++ runWords (k + length (allCode a)) b
 unfolding runWords allCode
 runs-append k [] b = rw add-zero
 runs-append k (s ∷ a) b = rw (runs-append (k + length (s .instrs)) a b, length-append, add-assoc)
 
-runs-length : (k : ℕ) (a : List SectionCode) → length (runWords k a) ≡ length a
+pub runs-length : (k : ℕ) (a : List SectionCode) → length (runWords k a) ≡ length a
 unfolding runWords
 runs-length k [] = refl
 runs-length k (s ∷ a) = ap suc (runs-length (k + length (s .instrs)) a)
@@ -93,7 +93,7 @@ sections-first l e n k (Stmts.ite c r t f z) s h =
     (shape (inner (ownCode e c ++ condCode t r (suc n)) (section nf)) (orEmpty t nj (stmtSections true e (suc n) nj t)) (orEmpty f nj (stmtSections true e nf nj f))
     (inner [] (link l (entry s (suc nj) k))) (stmtSections l e (suc nj) k s))
 
-single : (x : Block) (g : CodegenData) → isEnd x ≡ false → Single (annotateStmts (only x) g .0)
+pub single : (x : Block) (g : CodegenData) → isEnd x ≡ false → Single (annotateStmts (only x) g .0)
 unfolding annotateStmts only
 single end g h = absurd (let z : _≡_ {A = ℕ} 0 1 = cc in omega arith)
 single (Block.goto e xs) g h = refl
@@ -101,7 +101,7 @@ single (ite c t f xs) g h = refl
 single (Block.incdec i x xs) g h = refl
 single (assign x o e xs) g h = refl
 
-onward-same : (l : Bool) (x : Block) (g : CodegenData) → onward l (annotateStmts (only x) g .0) ≡ onwardB l x
+pub onward-same : (l : Bool) (x : Block) (g : CodegenData) → onward l (annotateStmts (only x) g .0) ≡ onwardB l x
 unfolding annotateStmts only
 onward-same l end g = refl
 onward-same l (Block.goto e xs) g = refl

@@ -2,9 +2,19 @@ use Rattle.program.proofs.Firsts.{headed-goto, headed-step, headed-assi
 use Rattle.stmts.proofs.Places.{goto-at, step-at, assign-at, ite-at, else-ite, ite-sum, goto-sum, assign-sum, step-sum, empty-same}
 use Rattle.stmts.proofs.Splits.{split}
 use Rattle.rules.specs.Bits.{isOne}
+use Rattle.rules.specs.Tree.{PowTo, ofBlock, statement as statementS, node, both, none}
+use Rattle.exprs.proofs.Trees.{expr-most}
+use Rattle.stmts.specs.Makes.{jumpCost}
+use Rattle.stmts.specs.Lists.{isEnd}
+use Rattle.stmts.proofs.Makes.{assign-most, jump-cost-most}
+use Rattle.program.specs.Costs.{ownCost}
+use Rattle.program.specs.Lines.{bare}
+use mathlib.Core.Bool.{Bool}
 use native.Mathlib.Omega.{arith}
 use native.Mathlib.Numerals.{add-one}
-use Prim.Native.Nat.{ℕ, _+_}
+use Prim.Native.Nat.{ℕ, _+_, _/_, _%_}
+use Rattle.rules.specs.Parse.{assignops}
+use lib.ListN.{getD}
 use mathlib.Core.Path.{_≡_, refl, sym, ap, _∙_}
 use borrow.Author.Needs.{needs}
 use Rattle.program.proofs.line.codegen_from_head.Statement.{statement}
@@ -90,10 +100,14 @@ same-length-6 c = search needs
 
 -- src/line.rt:56:9
 returns : tie.Need-returns
+unfolding ownCost bare ofBlock statementS node both none
 returns c =
     λ m x z h q.
     let b = goto-at q (c .before .before .before .before .before .before .before .before .before .before .before .before .before .before .before .before .before .before .if1 .taken) in
-    rw (b .is) (headed-goto (b .e) (c .before .before .before .before .before .before .before .before .before .before .before .codegen-from-goto .ensures m _ _ h (b .to) .0))
+    let r = c .before .before .before .before .before .before .before .before .before .before .before .codegen-from-goto .ensures m _ _ h (b .to) in
+    let s = r .1 in
+    let k = expr-most (b .e) in
+    rw (b .is) (record { does = headed-goto (b .e) (r .0); cost = s .at; spent = record { at = omega arith; numbers = omega arith; values = omega arith; strings = omega arith; chars = omega arith } })
 
 -- src/line.rt:59:9
 codegen-from-step-requires : tie.Need-codegen-from-step-requires
@@ -121,11 +135,13 @@ same-length-9 c = search needs
 
 -- src/line.rt:59:9
 returns-2 : tie.Need-returns-2
-unfolding isOne
+unfolding isOne ownCost bare ofBlock statementS node both none
 returns-2 c =
     λ m x z h q.
     let b = step-at h q (c .before .before .before .before .before .before .before .before .before .before .if2 .taken) in
-    rw (b .is) (headed-step _ _ (c .before .before .before .before .before .before .codegen-from-step .ensures m _ _ _ (b .known) .0))
+    let r = c .before .before .before .before .before .before .codegen-from-step .ensures m _ _ _ (b .known) in
+    let s = r .1 in
+    rw (b .is) (record { does = headed-step _ _ (r .0); cost = s .at; spent = record { at = omega arith; numbers = omega arith; values = omega arith; strings = omega arith; chars = omega arith } })
 
 -- src/line.rt:62:9
 codegen-from-set-requires : tie.Need-codegen-from-set-requires
@@ -164,10 +180,15 @@ same-length-15 c = search needs
 
 -- src/line.rt:62:9
 returns-3 : tie.Need-returns-3
+unfolding ownCost bare ofBlock statementS node both none
 returns-3 c =
     λ m x z h q.
     let b = assign-at h q (c .before .before .before .before .before .before .before .before .before .before .before .before .before .before .before .before .before .before .if3 .taken) in
-    rw (b .is) (headed-assign _ _ (b .e) (c .before .before .before .before .before .before .before .before .before .before .before .codegen-from-set .ensures m _ _ h (b .known) (b .value) .0))
+    let r = c .before .before .before .before .before .before .before .before .before .before .before .codegen-from-set .ensures m _ _ h (b .known) (b .value) in
+    let s = r .1 in
+    let k = expr-most (b .e) in
+    let o = assign-most (getD assignops (getD (c .before .before .before .before .before .before .before .before .before .before .before .before .before .before .before .before .before .before .before .before .before .before .before .before .before .before .before .before .before .before .args .nodes .now) (c .before .before .before .before .before .before .before .before .before .before .before .before .before .before .before .before .before .before .before .before .before .before .before .before .before .before .before .before .before .before .args .i) 0 / 16 % 16) PowTo) in
+    rw (b .is) (record { does = headed-assign _ _ (b .e) (r .0); cost = s .at; spent = record { at = omega (arith, s .at, k, o); numbers = omega arith; values = omega arith; strings = omega arith; chars = omega arith } })
 
 -- src/line.rt:64:13
 cast-v : tie.Need-cast-v
@@ -247,11 +268,23 @@ same-length-21 c = search needs
 
 -- src/line.rt:26:1
 returns-4 : tie.Need-returns-4
+unfolding ownCost bare ofBlock statementS node both none
 returns-4 c =
     λ m x z h q.
     let p = c .before .before .before .before .before .before .before .before .before .before .before .before .before .before .before .before .before .before .before .before .before .before .before .before .before .before .before .before .before .before .before .pre .0 in
     let it = ite-at (p .short) h q (else-ite q (c .before .before .before .before .before .before .before .before .before .before .before .before .before .before .before .before .before .before .before .before .before .if1 .left) (c .before .before .before .before .before .before .before .before .before .before .before .before .before .before .before .before .before .before .before .before .if2 .left) (c .before .before .before .before .before .before .before .before .before .before .before .before .before .before .before .before .before .before .before .if3 .left)) in
-    rw (it .is) (headed-ite (it .e) (it .yes) (it .no) (add-one _) (empty-same (it .then-held)) (ap (λ (k : ℕ). c .before .before .before .before .before .before .before .before .before .before .before .before .before .before .before .before .before .before .before .before .before .before .before .before .before .before .before .before .before .before .before .args .link .number + 1 + k) (it .width-then)) (c .before .before .before .before .before .before .before .before .before .before .before .codegen-from-test .ensures m _ _ h (it .test) .0))
+    let r = c .before .before .before .before .before .before .before .before .before .before .before .codegen-from-test .ensures m _ _ h (it .test) in
+    let s = r .1 in
+    let k = expr-most (it .e) in
+    let y = empty-same (it .then-held) in
+    let jc = ap (λ (v : Bool). jumpCost v) y in
+    let jm = jump-cost-most (isEnd (it .yes)) in
+    rw (it .is)
+    (record {
+      does = headed-ite (it .e) (it .yes) (it .no) (add-one _) (empty-same (it .then-held)) (ap (λ (k : ℕ). c .before .before .before .before .before .before .before .before .before .before .before .before .before .before .before .before .before .before .before .before .before .before .before .before .before .before .before .before .before .before .before .args .link .number + 1 + k) (it .width-then)) (r .0);
+      cost = omega (arith, s .at, jc);
+      spent = record { at = omega (arith, s .at, jc, jm, k); numbers = omega arith; values = omega arith; strings = omega arith; chars = omega arith };
+    })
 
 pub codegen-from-head-spec : {M : Type 1} → statement M
 codegen-from-head-spec =
