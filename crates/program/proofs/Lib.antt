@@ -1,6 +1,6 @@
 pub mod Firsts
-pub mod Lines
 pub mod Names
+pub mod Parts
 pub mod Runs
 pub mod Script
 pub mod Sums

@@ -1,4 +1,5 @@
 pub mod Costs
 pub mod Lines
-pub mod Program
 pub mod Names
+pub mod Program
+pub mod Script

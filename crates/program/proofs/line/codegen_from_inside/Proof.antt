@@ -1,4 +1,4 @@
-use Rattle.program.proofs.Lines.{inside-none, inside-ite, none-inside, ite-inside}
+use Rattle.program.proofs.Parts.{inside-none, inside-ite, none-inside, ite-inside}
 use Rattle.program.specs.Lines.{insideTally}
 use Rattle.stmts.proofs.Places.{ite-at, ite-sum}
 use Rattle.stmts.proofs.Splits.{split}

@@ -1,4 +1,4 @@
-use Rattle.program.proofs.Lines.{only-parts, only-width, line-none, line-more, stored-bare}
+use Rattle.program.proofs.Parts.{only-parts, only-width, line-none, line-more, stored-bare}
 use Rattle.program.proofs.Sums.{own-only}
 use Rattle.program.specs.Costs.{ownCost}
 use Rattle.program.specs.Lines.{innerNodes, insideTally}
