@@ -4,3 +4,4 @@ pub mod Parts
 pub mod Runs
 pub mod Script
 pub mod Sums
+pub mod Whole

@@ -222,12 +222,12 @@ line-more {m} x {line} {n} {n'} {h} {head} {l'} {c} {d} {f} {r} {t} {t1} {t2} {t
     let rs = stmtSections l' e n' (c .err .0) (annotateStmts (rest x) g2 .0) in
     let ss = line-sections e n (c .err .0) h n' l' x g s p q o in
     let len : n' ≡ suc n + length ins =
-        let k1 = length-low true e n h (annotateStmts (only x) g .0) in
-        let k2 = made-width (only x) g in
-        let k3 = ap (λ (k : List SectionCode). length k) (ap (λ (k : Block). stmtSections true e n h (annotateStmts k g .0)) (sym (only-only x)) ∙ own-sections true e n h (only x) g (only-some x s)) in
-        omega (arith, k1, k2, k3, p) in
+    let k1 = length-low true e n h (annotateStmts (only x) g .0) in
+    let k2 = made-width (only x) g in
+    let k3 = ap (λ (k : List SectionCode). length k) (ap (λ (k : Block). stmtSections true e n h (annotateStmts k g .0)) (sym (only-only x)) ∙ own-sections true e n h (only x) g (only-some x s)) in
+    omega (arith, k1, k2, k3, p) in
     let tw : Wrote ((absent ∷ []) ++ (ins ++ rs)) n (c .at) (r .at) (t1 .instrs) (t3 .instrs) se1 se4 =
-        wrote-more (wrote-one pl) (sym (add-one n)) (wrote-more (v .wrote) len (w .wrote)) in
+    wrote-more (wrote-one pl) (sym (add-one n)) (wrote-more (v .wrote) len (w .wrote)) in
     let hw : Wrote (ownSection true true e n h (only x) own0 ∷ []) line head (d .at) (t .instrs) (t1 .instrs) se se1 = wrote-one (u .stored) in
     let se : stmtSections true e n e (annotateStmts x g .0) ≡ ownSection false true e n h (only x) own0 ∷ (ins ++ rs) = ap (λ (k : ℕ). stmtSections true e n k (annotateStmts x g .0)) (sym (y .err)) ∙ ss in
     record {

@@ -219,10 +219,10 @@ lines-more {m} {L} {k} {k1} x bs cs {n} {n1} {n2} {head} {h1} {h2} {c} {d} {c1} 
         let s : n1 ≡ n + sectionsMade S = a .number-is ∙ ap (λ (y : ℕ). n + y) (sym (made-width x g)) in
         let ends = up .tails-end in
         let vv : LinesWent m L k1 n1 h1 h2 b c1 t1 t2 se1 se2 c2 (annotateLines bs g1) =
-            z .does b g1 (regs-own (u .regs)) (omega (arith, a .cost, d0, p, ends, ap (λ (y : Counters). y .at) dd)) (omega (arith, a .number-is, q)) in
+        z .does b g1 (regs-own (u .regs)) (omega (arith, a .cost, d0, p, ends, ap (λ (y : Counters). y .at) dd)) (omega (arith, a .number-is, q)) in
         let ss = annotateLines bs g1 .0 in
         let vp : Parted (heads L (suc k) (n + sectionsMade S) ss) (tails L (suc k) (n + sectionsMade S) ss) (suc k) (n + sectionsMade S) h1 (c1 .at) h2 (c2 .at) (t1 .instrs) (t2 .instrs) se1 se2 =
-            rw (s, o, add-one k) at (vv .parted) in
+        rw (s, o, add-one k) at (vv .parted) in
         let l1 : length (tailOf sec) ≡ sectionsMade S = length-tailOf sec ∙ length-low true E n E S in
         let hl = heads-length L (suc k) (n + sectionsMade S) ss in
         let sl = script-length bs g1 in
