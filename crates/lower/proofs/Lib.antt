@@ -1,0 +1,6 @@
+pub mod ZeroLoop
+pub mod Words
+pub mod Assembled
+pub mod Before
+pub mod Done
+pub mod Steps
