@@ -9,6 +9,22 @@
 /* The sizes of a tree file: lines, names, statements, nodes, strings, characters, into the first six of counts. */
 uint64_t sezkibalo_size(const uint8_t *tree, size_t tree_len, uint64_t *counts, size_t counts_len);
 
+/* A tree file is made into a machine in the lent tables; each of these is refused as sezkibalo_size is, then 11 where a table is shorter
+   than its estimate. Bit 0 of options protects the local names, bit 1 the global ones (2 is the default), the other bits are ignored.
+   The first eight of counts are written, in the order below. Fewer than eight are 11 before all else. */
+
+/* The tree is lowered. */
+uint64_t sezkibalo_lower(const uint8_t *tree, size_t tree_len, uint64_t options, uint64_t *sections, size_t sections_len,
+                         uint64_t *instructions, size_t instructions_len, int64_t *numbers, size_t numbers_len,
+                         uint32_t *strings, size_t strings_len, uint8_t *pool, size_t pool_len,
+                         uint16_t *names, size_t names_len, uint64_t *counts, size_t counts_len);
+
+/* The tree is lowered, its machine cleaned and combined. */
+uint64_t sezkibalo_finish(const uint8_t *tree, size_t tree_len, uint64_t options, uint64_t *sections, size_t sections_len,
+                          uint64_t *instructions, size_t instructions_len, int64_t *numbers, size_t numbers_len,
+                          uint32_t *strings, size_t strings_len, uint8_t *pool, size_t pool_len,
+                          uint16_t *names, size_t names_len, uint64_t *counts, size_t counts_len);
+
 /* Calls on a machine in lent tables. The first eight of counts are lines, sections, instructions, numbers, strings, characters of the pool,
    values, names; they are read, and written where the call is not refused. Fewer than eight are 11 before all else. */
 

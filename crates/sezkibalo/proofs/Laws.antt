@@ -6,9 +6,10 @@ use lib.ListN.{length}
 use borrow.Author.Tests.{lt-ltb, le-ltb}
 use Rattle.rules.specs.Word.{Span}
 use Rattle.rules.specs.Bits.{Res, refused, ok}
+use Rattle.rules.specs.Lowered.{Options}
 use Rattle.rules.specs.Operations.{Size, size, textSpan}
 use Rattle.rules.specs.Tables.{Tables, Counts}
-use Rattle.sezkibalo.specs.Calls.{sizeAnswer, sizeCall, spotOf, textCall, front, countsRow, rowCounts, answerRow, beside, changeCall}
+use Rattle.sezkibalo.specs.Calls.{sizeAnswer, sizeCall, spotOf, textCall, front, countsRow, rowCounts, answerRow, beside, changeCall, optionsOf, buildCall}
 use Rattle.tables.specs.declared.counts.Counts.{Counts as Lent}
 use Rattle.tables.specs.declared.answer.Answer.{Answer}
 use Rattle.tables.specs.declared.answer.Answer.the-variants.{Done, Refused}
@@ -38,6 +39,16 @@ module _ (f : Tables → Counts → Res Counts × Tables) (c : List ℕ) (t : Ta
       let e′ : (x, u) ≡ f t (rowCounts c) = e ∙ ap (f t) r in
       ap (λ (z : ℕ × List ℕ). beside z u) q
       ∙ (ap₂ (λ (a : Res Counts) (b : Tables). beside (answerRow a c) b) (ap (λ (y : Res Counts × Tables). y .0) e′) (ap (λ (y : Res Counts × Tables). y .1) e′) ∙ sym (rw (le-ltb (length c) 8 h, changeCall)))
+
+-- ---- lower, finish: an operation f on the file s, by the options n
+
+module _ (f : Options → List ℕ → Tables → Res Counts × Tables) (s : List ℕ) (n : ℕ) (c : List ℕ) (t : Tables) where
+  pub build-short : length c < 8 → (11, c, t) ≡ buildCall f s n c t
+  build-short = change-short (λ v u. f (optionsOf n) s v) c t
+
+  -- the answer x and the tables u afterwards, where f was called by o; p is the answer as numbers
+  pub build-answers : (o : Options) (x : Res Counts) (u : Tables) (p : ℕ × List ℕ) → 8 ≤ length c → o ≡ optionsOf n → (x, u) ≡ f o s t → p ≡ answerRow x c → beside p u ≡ buildCall f s n c t
+  build-answers o x u p h r e q = change-answers (λ v w. f (optionsOf n) s v) c t (rowCounts c) x u p h refl (e ∙ ap (λ (y : Options). f y s t) r) q
 
 -- what an answer is found to be
 pub told-refused : (a : Answer) (n : ℕ) (c : List ℕ) → a ≡ Refused n → (n, c) ≡ answerRow (answerTold a) c

@@ -2,13 +2,14 @@
 -- answer that does not refuse.
 use mathlib.Core.Bool.{true, false}
 use mathlib.Core.List.{List, [], _∷_, _++_}
-use Prim.Native.Nat.{ℕ, _+_, _*_, _^_, _-_, min}
-use lib.Dec.{ltb}
+use Prim.Native.Nat.{ℕ, _+_, _*_, _/_, _%_, _^_, _-_, min}
+use lib.Dec.{ltb, eqb}
 use lib.ListN.{length, drop, getD}
 use Rattle.rules.specs.Constants.{mostCount}
 use Rattle.rules.specs.Refusal as Refusal
 use Rattle.rules.specs.Bits.{Res, refused, ok}
 use Rattle.rules.specs.Tables.{Tables, Counts}
+use Rattle.rules.specs.Lowered.{Options}
 use Rattle.rules.specs.Operations.{Size, size, textSpan}
 
 -- numbers at the start of a lent list, the rest as it was
@@ -58,6 +59,16 @@ beside p t = (p .0, p .1, t)
 -- an operation f on the machine in the tables: 11 before all else where `counts` has no room for eight
 unfoldable pub changeCall : (Tables → Counts → Res Counts × Tables) → List ℕ → Tables → ℕ × List ℕ × Tables
 changeCall f c t = elim (ltb (length c) 8) [ true ↦ (Refusal.noRoom, c, t) | false ↦ beside (answerRow (f t (rowCounts c) .0) c) (f t (rowCounts c) .1) ]
+
+-- ---- lower, finish
+
+-- bit 0 protects the local names, bit 1 the global ones; the other bits are ignored
+abbrev pub optionsOf : ℕ → Options
+optionsOf n = record { locals = eqb (n % 2) 1; globals = eqb (n / 2 % 2) 1 }
+
+-- an operation f on the tree file s: as above, and the counts that are lent are not read
+abbrev pub buildCall : (Options → List ℕ → Tables → Res Counts × Tables) → List ℕ → ℕ → List ℕ → Tables → ℕ × List ℕ × Tables
+buildCall f s n = changeCall (λ t u. f (optionsOf n) s t)
 
 -- ---- text
 

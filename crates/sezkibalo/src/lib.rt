@@ -2,6 +2,7 @@
 //
 // Each function is shown to give what its definition in specs/Calls says, in which the definitions of `rules` are the answer and every lent word.
 // None asks anything of its caller.
+pub mod build;
 pub mod counts;
 
 ghost use mathlib.Core.Path.{_≡_};
