@@ -13,9 +13,9 @@ use crate::walk::{read, walk, Ask, Stop, Walk};
 use std::collections::BTreeMap;
 
 /// Most outcomes of a list.
-const LONG: usize = 200;
+pub const LONG: usize = 200;
 /// How many instructions may be met.
-const LIMITS: [usize; 5] = [5, 60, 400, 2_000, 2_000];
+pub const LIMITS: [usize; 5] = [5, 60, 400, 2_000, 2_000];
 
 /// A tree's machine and script, ready to be walked.
 pub struct Subject {
@@ -33,7 +33,11 @@ impl Subject {
             Answer::Done(machine) => Ok(machine),
             _ => Err("yogi panics"),
         };
-        let (lowered, machine) = (build(Stage::Lower)?, build(Stage::Finish)?);
+        Subject::of(tree, &build(Stage::Lower)?, build(Stage::Finish)?)
+    }
+
+    /// With a lowered and a finished machine that anybody may have built from the tree.
+    pub fn of(tree: &Tree, lowered: &Machine, machine: Machine) -> Result<Self, &'static str> {
         let script = script(tree);
         let counts = pack(&machine).0;
         let own = [script.numbers, script.strings, script.values].map(usize::from);
@@ -41,7 +45,7 @@ impl Subject {
             return Err("the script has other registers");
         }
         Ok(Subject {
-            marks: finished_marks(&script, &lowered, &machine)?,
+            marks: finished_marks(&script, lowered, &machine)?,
             behind: behind_goto(&script),
             counts,
             script,

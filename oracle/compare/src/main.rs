@@ -1,50 +1,16 @@
 //! The static library beside the judge: the same inputs to both, and every lent word compared.
-//! Usage: compare SEED FILES MACHINES, or compare big for the time of the largest machines
+//! Usage: compare SEED FILES MACHINES; compare build SEED FILES for lower and finish; compare big for the time of the largest machines
 
 mod big;
+mod builds;
 mod library;
+mod tally;
 
 use oracle::generate::machines::{self, Case};
-use oracle::generate::{damaged, trees};
 use oracle::judge::{self, Answer, Op};
 use oracle::rng::Rng;
 use std::process::ExitCode;
-
-/// Stands in every lent word before a call.
-const GUARD: u64 = 0x5a5a_5a5a_5a5a_5a5a;
-
-/// What a kind of call has shown so far.
-struct Tally {
-    name: &'static str,
-    cases: u64,
-    refused: u64,
-    different: u64,
-}
-
-impl Tally {
-    fn new(name: &'static str) -> Self {
-        Tally { name, cases: 0, refused: 0, different: 0 }
-    }
-
-    fn count(&mut self, refused: bool, same: bool, input: &dyn Fn() -> String) {
-        self.cases += 1;
-        self.refused += u64::from(refused);
-        if !same {
-            self.different += 1;
-            println!("DIFFERENT {}: {}", self.name, input());
-        }
-    }
-
-    fn print(&self) {
-        println!("{}: {} cases, {} refused, {} different", self.name, self.cases, self.refused, self.different);
-    }
-}
-
-/// Files in batches, so that the longest runs need no more memory than the shortest.
-const A_BATCH: usize = 5_000;
-
-/// The largest files of most batches; one batch in twenty has files of any length.
-const USUAL_BYTES: usize = 600;
+use tally::{each_file, Tally, A_BATCH, GUARD};
 
 /// The judge's answer and the lent numbers afterwards.
 fn expected_size(file: &[u8], lent: &[u64]) -> (u64, Vec<u64>) {
@@ -78,19 +44,7 @@ fn compare_size(tally: &mut Tally, rng: &mut Rng, file: &[u8]) {
 fn compare_files(seed: u64, count: usize) -> Vec<Tally> {
     let mut sizes = Tally::new("size");
     let mut rng = Rng::new(seed);
-    let mut done = 0;
-    let mut batch = 0;
-    while done < count {
-        let most = if batch % 20 == 0 { 40_000 } else { USUAL_BYTES };
-        let part = A_BATCH.min(count - done);
-        let seed = seed.wrapping_mul(1_000_003).wrapping_add(batch);
-        let files = if batch % 2 == 0 { trees::files(seed, part, most) } else { damaged::files(seed, part, most) };
-        for file in files {
-            compare_size(&mut sizes, &mut rng, &file);
-        }
-        done += part;
-        batch += 1;
-    }
+    each_file(seed, count, |file| compare_size(&mut sizes, &mut rng, file));
     vec![sizes]
 }
 
@@ -160,19 +114,29 @@ fn compare_machines(seed: u64, count: usize) -> Vec<Tally> {
     tallies
 }
 
+fn all(seed: u64, files: usize, machines: usize) -> Vec<Tally> {
+    let mut tallies = compare_files(seed, files);
+    tallies.extend(compare_machines(seed, machines));
+    tallies
+}
+
 fn main() -> ExitCode {
-    if std::env::args().nth(1).as_deref() == Some("big") {
-        big::run();
-        return ExitCode::SUCCESS;
-    }
-    let args: Vec<u64> = std::env::args().skip(1).filter_map(|a| a.parse().ok()).collect();
-    let [seed, files, machines] = args[..] else {
-        eprintln!("usage: compare SEED FILES MACHINES, or compare big");
-        return ExitCode::from(2);
-    };
+    let words: Vec<String> = std::env::args().skip(1).collect();
+    let numbers: Vec<u64> = words.iter().filter_map(|word| word.parse().ok()).collect();
+    let first = words.first().map_or("", String::as_str);
     judge::hush_yogi();
-    let mut tallies = compare_files(seed, files as usize);
-    tallies.extend(compare_machines(seed, machines as usize));
+    let tallies = match (first, &numbers[..]) {
+        ("big", []) => {
+            big::run();
+            return ExitCode::SUCCESS;
+        }
+        ("build", &[seed, files]) => builds::run(seed, files as usize),
+        (_, &[seed, files, machines]) => all(seed, files as usize, machines as usize),
+        _ => {
+            eprintln!("usage: compare SEED FILES MACHINES, compare build SEED FILES, or compare big");
+            return ExitCode::from(2);
+        }
+    };
     tallies.iter().for_each(Tally::print);
     let different: u64 = tallies.iter().map(|t| t.different).sum();
     println!("{different} differences");
