@@ -2,9 +2,13 @@
 //
 // Each function is shown safe and ending, on any bytes. A number that is too long or no number is read as some number; what is compared with it
 // then does not agree.
+pub mod machine;
+pub mod rows;
+
 ghost use Prim.Native.Nat.{_≤_, _<_, _+_};
 ghost use lib.ListN.{length};
 ghost use Rattle.io.specs.Counts.{Counts};
+use libc::STDOUT_FILENO;
 
 // Where the stretch that begins at `from` ends: at the next `stop`, or where the text does.
 pub fn until(text: &[u8], from: usize, stop: u8) -> usize
@@ -57,6 +61,19 @@ pub fn decimal(text: &[u8]) -> u64 {
     v
 }
 
+// Where the part of this number begins, parts parted by `stop`; the end where there are fewer.
+pub fn part(text: &[u8], k: usize, stop: u8) -> usize
+    ensures { λ r. ⌜ r ≤ length (now (text .entry)) ⌝ }
+{
+    let mut at: usize = 0;
+    let mut i: usize = 0;
+    while i < k {
+        at = behind(text, until(text, at, stop));
+        i += 1;
+    }
+    at
+}
+
 // The bytes that a text spells in hexadecimal, as many as there is room for.
 pub fn bytes(text: &[u8], out: &mut [u8]) -> usize
     ensures { λ r. ⌜ Counts r (now (out .exit)) ⌝ }
@@ -70,4 +87,18 @@ pub fn bytes(text: &[u8], out: &mut [u8]) -> usize
         n += 1;
     }
     n
+}
+
+pub fn one_if(b: bool) -> u64
+    ensures { λ r. ⌜ r ≤ 1 ⌝ }
+{
+    if b { 1 } else { 0 }
+}
+
+// How many of the cases agree, to standard output.
+pub fn print(agree: u64, cases: u64, what: &[u8]) {
+    io::print_decimal(STDOUT_FILENO, agree);
+    io::write_all(STDOUT_FILENO, b" of ");
+    io::print_decimal(STDOUT_FILENO, cases);
+    io::write_all(STDOUT_FILENO, what);
 }

@@ -1,0 +1,162 @@
+// A recorded machine (oracle/README.md, "A machine on one line"): its counts, its tables read into lent ones, and both compared.
+//
+// Each function is shown safe and ending, on any bytes.
+ghost use mathlib.Core.Path.{_≡_};
+ghost use Prim.Native.Nat.{_≤_};
+ghost use lib.ListN.{length, take};
+use crate::bytes;
+use crate::decimal;
+use crate::part;
+use crate::rows::read_signed;
+use crate::rows::read16;
+use crate::rows::read32;
+use crate::rows::read64;
+use crate::rows::spells_bytes;
+use crate::rows::spells_signed;
+use crate::rows::spells16;
+use crate::rows::spells32;
+use crate::rows::spells64;
+use crate::until;
+use tables::counts::Counts;
+
+// The tables by their part of the line.
+pub const SECTIONS: usize = 1;
+
+pub const INSTRUCTIONS: usize = 2;
+
+// A number of a row.
+fn count(row: &[u8], k: usize) -> usize {
+    let at = part(row, k, b' ');
+    decimal(&row[at..]) as usize
+}
+
+fn row_counts(row: &[u8]) -> Counts {
+    Counts {
+        lines: count(row, 0),
+        sections: count(row, 1),
+        instructions: count(row, 2),
+        numbers: count(row, 3),
+        strings: count(row, 4),
+        characters: count(row, 5),
+        values: count(row, 6),
+        names: count(row, 7),
+    }
+}
+
+// The eight counts of a machine.
+pub fn counts(text: &[u8]) -> Counts {
+    let from = part(text, 0, b'|');
+    let end = until(text, from, b'|');
+    row_counts(&text[from..end])
+}
+
+pub fn same(a: Counts, b: Counts) -> bool {
+    (a.lines == b.lines)
+        & (a.sections == b.sections)
+        & (a.instructions == b.instructions)
+        & (a.numbers == b.numbers)
+        & (a.strings == b.strings)
+        & (a.characters == b.characters)
+        & (a.values == b.values)
+        & (a.names == b.names)
+}
+
+// Sections or instructions into a lent table; how many words there are.
+pub fn words_of(text: &[u8], k: usize, out: &mut [u64]) -> usize
+    ensures { λ r. ⌜ (r ≤ length (now (out .exit))) × (r ≡ length (take r (now (out .exit)))) ⌝ }
+{
+    let from = part(text, k, b'|');
+    let end = until(text, from, b'|');
+    read64(&text[from..end], out)
+}
+
+pub fn numbers_of(text: &[u8], out: &mut [i64]) -> usize
+    ensures { λ r. ⌜ (r ≤ length (now (out .exit))) × (r ≡ length (take r (now (out .exit)))) ⌝ }
+{
+    let from = part(text, 3, b'|');
+    let end = until(text, from, b'|');
+    read_signed(&text[from..end], out)
+}
+
+pub fn strings_of(text: &[u8], out: &mut [u32]) -> usize
+    ensures { λ r. ⌜ (r ≤ length (now (out .exit))) × (r ≡ length (take r (now (out .exit)))) ⌝ }
+{
+    let from = part(text, 4, b'|');
+    let end = until(text, from, b'|');
+    read32(&text[from..end], out)
+}
+
+pub fn pool_of(text: &[u8], out: &mut [u8]) -> usize
+    ensures { λ r. ⌜ (r ≤ length (now (out .exit))) × (r ≡ length (take r (now (out .exit)))) ⌝ }
+{
+    let from = part(text, 5, b'|');
+    let end = until(text, from, b'|');
+    bytes(&text[from..end], out)
+}
+
+pub fn names_of(text: &[u8], out: &mut [u16]) -> usize
+    ensures { λ r. ⌜ (r ≤ length (now (out .exit))) × (r ≡ length (take r (now (out .exit)))) ⌝ }
+{
+    let from = part(text, 6, b'|');
+    let end = until(text, from, b'|');
+    read16(&text[from..end], out)
+}
+
+fn has_words(text: &[u8], k: usize, t: &[u64]) -> bool {
+    let from = part(text, k, b'|');
+    let end = until(text, from, b'|');
+    spells64(&text[from..end], t)
+}
+
+fn has_numbers(text: &[u8], t: &[i64]) -> bool {
+    let from = part(text, 3, b'|');
+    let end = until(text, from, b'|');
+    spells_signed(&text[from..end], t)
+}
+
+fn has_strings(text: &[u8], t: &[u32]) -> bool {
+    let from = part(text, 4, b'|');
+    let end = until(text, from, b'|');
+    spells32(&text[from..end], t)
+}
+
+fn has_pool(text: &[u8], t: &[u8]) -> bool {
+    let from = part(text, 5, b'|');
+    let end = until(text, from, b'|');
+    spells_bytes(&text[from..end], t)
+}
+
+fn has_names(text: &[u8], t: &[u16]) -> bool {
+    let from = part(text, 6, b'|');
+    let end = until(text, from, b'|');
+    spells16(&text[from..end], t)
+}
+
+// Are these just the words of the recorded tables?
+pub fn has_tables(
+    text: &[u8],
+    sections: &[u64],
+    instructions: &[u64],
+    numbers: &[i64],
+    strings: &[u32],
+    pool: &[u8],
+    names: &[u16],
+) -> bool {
+    has_words(text, SECTIONS, sections)
+        & has_words(text, INSTRUCTIONS, instructions)
+        & has_numbers(text, numbers)
+        & has_strings(text, strings)
+        & has_pool(text, pool)
+        & has_names(text, names)
+}
+
+// Is it `R` and this number?
+pub fn refused(row: &[u8], n: u64) -> bool {
+    if row.len() < 3 {
+        return false;
+    }
+    if row[0] != b'R' {
+        return false;
+    }
+    decimal(&row[2..]) == n
+}
