@@ -150,6 +150,77 @@ pub fn has_tables(
         & has_names(text, names)
 }
 
+// Are these the words of the recorded tables, as many as are counted?
+fn has_counted(
+    text: &[u8],
+    c: Counts,
+    sections: &[u64],
+    instructions: &[u64],
+    numbers: &[i64],
+    strings: &[u32],
+    pool: &[u8],
+    names: &[u16],
+) -> bool {
+    if c.sections > sections.len() {
+        return false;
+    }
+    if c.instructions > instructions.len() {
+        return false;
+    }
+    if c.numbers > numbers.len() {
+        return false;
+    }
+    if c.strings > strings.len() {
+        return false;
+    }
+    if c.characters > pool.len() {
+        return false;
+    }
+    if c.names > names.len() {
+        return false;
+    }
+    let from: usize = 0;
+    let s = c.sections;
+    let i = c.instructions;
+    let n = c.numbers;
+    let t = c.strings;
+    let p = c.characters;
+    let m = c.names;
+    has_tables(
+        text,
+        &sections[from..s],
+        &instructions[from..i],
+        &numbers[from..n],
+        &strings[from..t],
+        &pool[from..p],
+        &names[from..m],
+    )
+}
+
+// Are these the recorded counts, and the words that they count?
+pub fn is_machine(
+    text: &[u8],
+    c: Counts,
+    sections: &[u64],
+    instructions: &[u64],
+    numbers: &[i64],
+    strings: &[u32],
+    pool: &[u8],
+    names: &[u16],
+) -> bool {
+    same(counts(text), c)
+        & has_counted(
+            text,
+            c,
+            sections,
+            instructions,
+            numbers,
+            strings,
+            pool,
+            names,
+        )
+}
+
 // Is it `R` and this number?
 pub fn refused(row: &[u8], n: u64) -> bool {
     if row.len() < 3 {
