@@ -1,4 +1,4 @@
--- `replay` is safe and ends. The loop's invariant: there are no more cases than bytes passed. Assumes nothing.
+-- `replay` is safe and ends. The loop's invariant: there are no more cases than bytes passed, and no more agree. Assumes nothing.
 use Prim.Native.Nat.{_+_, _-_, _≤_}
 use lib.ListN.{length}
 use borrow.Author.Needs.{needs}
@@ -6,10 +6,11 @@ use Rattle.replay.proofs.replay.Statement.{statement}
 use Rattle.replay.proofs.replay.Tie as tie
 
 abbrev Inv-loop : tie.InvT-loop
-Inv-loop text cases₀ agree₀ at₀ cases agree at = (agree ≤ cases) × (cases ≤ at) × (at ≤ length text + 1)
+Inv-loop text cases₀ sizes₀ lowered₀ finished₀ at₀ cases sizes lowered finished at =
+    (sizes ≤ cases) × (lowered ≤ cases) × (finished ≤ cases) × (cases ≤ at) × (at ≤ length text + 1)
 
 abbrev μ-loop : tie.MeasureT-loop
-μ-loop text cases₀ agree₀ at₀ cases agree at = length text + 1 - at
+μ-loop text cases₀ sizes₀ lowered₀ finished₀ at₀ cases sizes lowered finished at = length text + 1 - at
 
 loop-holds : tie.Need-loop-holds Inv-loop μ-loop
 loop-holds c = search needs
@@ -32,11 +33,14 @@ part-line-end c = search needs
 line-requires : tie.Need-line-requires Inv-loop μ-loop
 line-requires c κs = search needs
 
-one-if-requires : tie.Need-one-if-requires Inv-loop μ-loop
-one-if-requires c κs = search needs
+add-sizes : tie.Need-add-sizes Inv-loop μ-loop
+add-sizes c = search needs
 
-add-agree : tie.Need-add-agree Inv-loop μ-loop
-add-agree c = search needs
+add-lowered : tie.Need-add-lowered Inv-loop μ-loop
+add-lowered c = search needs
+
+add-finished : tie.Need-add-finished Inv-loop μ-loop
+add-finished c = search needs
 
 add-at : tie.Need-add-at Inv-loop μ-loop
 add-at c = search needs
@@ -66,8 +70,9 @@ replay-spec =
     part-line-start
     part-line-end
     line-requires
-    one-if-requires
-    add-agree
+    add-sizes
+    add-lowered
+    add-finished
     add-at
     loop-less
     loop-again
