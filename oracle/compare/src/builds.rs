@@ -126,7 +126,9 @@ impl<'a> Case<'a> {
     /// The call's number, counts and tables.
     fn call(&self, room: &Counts, counts: usize) -> (u64, Vec<u64>, Tables) {
         let (mut counts, mut tables) = (vec![GUARD; counts], self.old.clone());
-        let number = library::build(self.stage, self.file, self.options, &mut counts, &mut tables, MARGIN, room);
+        // bits 2 and up are ignored, so they may be anything
+        let bits = u64::from(self.options) | self.old.sections[0] & !3;
+        let number = library::build(self.stage, self.file, bits, &mut counts, &mut tables, MARGIN, room);
         (number, counts, tables)
     }
 

@@ -73,7 +73,7 @@ pub fn change(op: Op, counts: &mut [u64], t: &mut Tables) -> u64 {
 }
 
 /// The number that refuses, or 0; counts and tables afterwards. Of each table `room` words are lent, the first at `from`.
-pub fn build(stage: Stage, tree: &[u8], options: u8, counts: &mut [u64], t: &mut Tables, from: usize, room: &Counts) -> u64 {
+pub fn build(stage: Stage, tree: &[u8], options: u64, counts: &mut [u64], t: &mut Tables, from: usize, room: &Counts) -> u64 {
     let call: Build = match stage {
         Stage::Lower => sezkibalo_lower,
         Stage::Finish => sezkibalo_finish,
@@ -87,7 +87,7 @@ pub fn build(stage: Stage, tree: &[u8], options: u8, counts: &mut [u64], t: &mut
     // SAFETY: as above.
     unsafe {
         call(
-            tree.as_ptr(), tree.len(), options.into(), sections.as_mut_ptr(), sections.len(), instrs.as_mut_ptr(), instrs.len(),
+            tree.as_ptr(), tree.len(), options, sections.as_mut_ptr(), sections.len(), instrs.as_mut_ptr(), instrs.len(),
             numbers.as_mut_ptr(), numbers.len(), strings.as_mut_ptr(), strings.len(), pool.as_mut_ptr(), pool.len(),
             names.as_mut_ptr(), names.len(), counts.as_mut_ptr(), counts.len(),
         )
