@@ -33,6 +33,13 @@ use codegen::state::new_num;
 use nodes::kinds::IDENT;
 use nodes::kinds::INCDEC;
 use nodes::kinds::NUMBER;
+use nodes::layout::KINDS;
+use nodes::layout::NAME;
+use nodes::layout::NAMES;
+use nodes::layout::OP;
+use nodes::layout::OPS;
+use nodes::layout::POS;
+use nodes::layout::POSITIONS;
 use words::instr::StrReg;
 use words::text::StringWord;
 
@@ -130,18 +137,18 @@ pub fn codegen_from_leaf(
     requires { ⌜ LeafReady (now s) w c (length (now instrs)) (length (now numbers)) (length (now strings)) (length (now pool)) (length (now names)) ⌝ }
     ensures { λ a. ⌜ ((u : List ℕ) (i m : ℕ) (e : Expr) (j : ℕ) → m ≤ 256 → getD u i 0 ≡ w → HoldsE u (now (s .entry)) m i e j → Lowers m e c (lent (now (instrs .entry)) (now (numbers .entry)) (now (strings .entry)) (now (pool .entry)) (now (names .entry))) (lent (now (instrs .exit)) (now (numbers .exit)) (now (strings .exit)) (now (pool .exit)) (now (names .exit))) (a .reg .0) (a .next)) ⌝ }
 {
-    let kind = w % 16;
-    let x = (w / 256 % 256) as usize;
+    let kind = w % KINDS;
+    let x = (w / NAME % NAMES) as usize;
     if kind == INCDEC {
-        return codegen_incdec(instrs, names, c, w / 16 % 16 == 1, x);
+        return codegen_incdec(instrs, names, c, w / OP % OPS == 1, x);
     }
     if kind == IDENT {
         return get_variable(names, c, x);
     }
-    let p = (w / 65536 % 524288) as usize;
+    let p = (w / POS % POSITIONS) as usize;
     if kind == NUMBER {
         return codegen_from_number(s, instrs, numbers, c, p);
     }
-    let n = (w / 256 % 256) as u16;
+    let n = (w / NAME % NAMES) as u16;
     codegen_from_string(s, instrs, strings, pool, c, n, p)
 }

@@ -19,6 +19,10 @@ use codegen::state::GotVal;
 use leaves::codegen_from_leaf;
 use nodes::kinds::BINOP;
 use nodes::kinds::UNOP;
+use nodes::layout::KINDS;
+use nodes::layout::LAST;
+use nodes::layout::OP;
+use nodes::layout::OPS;
 
 // The value register of the expression at node i. In a Binop the right operand is lowered and copied before the left; it begins where the
 // left one ends.
@@ -37,11 +41,11 @@ pub fn codegen_from_expr(
     ensures { λ a. ⌜ ((m : ℕ) (e : Expr) (j : ℕ) → m ≤ 256 → HoldsE (now (nodes .entry)) (now (s .entry)) m i e j → Lowers m e c (lent (now (instrs .entry)) (now (numbers .entry)) (now (strings .entry)) (now (pool .entry)) (now (names .entry))) (lent (now (instrs .exit)) (now (numbers .exit)) (now (strings .exit)) (now (pool .exit)) (now (names .exit))) (a .reg .0) (a .next)) ⌝ }
 {
     let w = nodes[i];
-    let kind = w % 16;
-    let op = w / 16 % 16;
+    let kind = w % KINDS;
+    let op = w / OP % OPS;
     if kind == BINOP {
         let h = i + 1;
-        let right = (nodes[h] / 281474976710656) as usize;
+        let right = (nodes[h] / LAST) as usize;
         let r = codegen_from_expr(s, nodes, instrs, numbers, strings, pool, names, right, c);
         let x = copy_valreg(instrs, r.next, r.reg);
         let l = codegen_from_expr(s, nodes, instrs, numbers, strings, pool, names, h, x.next);

@@ -3,7 +3,7 @@
 // Each reader is shown equal to that of `rules`: it refuses as that does, or the table holds what that reads (specs/Holds) and the
 // cursor has counted it. A caller owes a table of 2,048 words, fewer than 256 names and a cursor within the limits (`Ready`).
 pub mod kinds;
-pub mod unpack;
+pub mod layout;
 
 ghost use mathlib.Core.Path.{_≡_};
 ghost use Prim.Native.Nat.{_≤_, _<_, _*_, _+_, _-_};
@@ -13,6 +13,11 @@ ghost use Rattle.rules.specs.Parse.{expr, incdecOf, identOf, numberOf, stringOf
 ghost use Rattle.nodes.specs.Words.{wordOf, iteWord};
 ghost use Rattle.nodes.specs.Width.{orOne};
 ghost use Rattle.nodes.specs.Builds.{Ready, Begun, BegunStmt, Closed, Spans, Builds, before, beforeStmt, joined, heldE, countE, heldF, countF, flagR, leafR, heldS, countS, ReadsExpr, ReadsStmt, ReadsList};
+use crate::layout::LAST;
+use crate::layout::NAME;
+use crate::layout::OP;
+use crate::layout::POS;
+use crate::layout::WIDTH;
 use bits::Cursor;
 use bits::Step;
 use bits::limits::ASSIGN_BITS;
@@ -49,8 +54,8 @@ fn word(kind: u64, op: u64, name: u64, pos: usize, last: usize, width: usize) ->
     requires { ⌜ (kind < 16) × (op < 16) × (name < 256) × (pos < 524288) × (last < 4096) × (width < 8192) ⌝ }
     ensures { λ r. ⌜ r ≡ wordOf kind op name pos last width ⌝ }
 {
-    let low = kind + 16 * op + 256 * name + 65536 * (pos as u64);
-    low + 34359738368 * (width as u64) + 281474976710656 * (last as u64)
+    let low = kind + OP * op + NAME * name + POS * (pos as u64);
+    low + WIDTH * (width as u64) + LAST * (last as u64)
 }
 
 // Node i is done: its word is written, now that the node behind it is known.

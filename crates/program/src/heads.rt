@@ -20,6 +20,12 @@ use nodes::kinds::ITE;
 use nodes::kinds::NUMBER;
 use nodes::kinds::STRING;
 use nodes::kinds::UNOP;
+use nodes::layout::KINDS;
+use nodes::layout::LAST;
+use nodes::layout::NAME;
+use nodes::layout::NAMES;
+use nodes::layout::OP;
+use nodes::layout::OPS;
 
 // Of an operator.
 
@@ -70,8 +76,8 @@ pub fn node_cost(w: u64) -> usize
     ensures is { λ r. ⌜ r ≡ nodeCost w ⌝ }
     ensures most { λ r. ⌜ r ≤ 9 ⌝ }
 {
-    let kind = w % 16;
-    let op = w / 16 % 16;
+    let kind = w % KINDS;
+    let op = w / OP % OPS;
     if kind == BINOP {
         return 2 + binop_cost(op);
     }
@@ -91,7 +97,7 @@ pub fn node_cost(w: u64) -> usize
         return 1;
     }
     if kind == ITE {
-        if w / 256 % 256 == 0 {
+        if w / NAME % NAMES == 0 {
             return 1;
         }
     }
@@ -118,10 +124,10 @@ pub fn own_cost(nodes: &[u64], i: usize) -> usize
     ensures { λ r. ⌜ ((s : List ℕ) (m n : ℕ) (x : Block) (z : ℕ) → length s ≤ mostBytes → m ≤ 256 → 0 < n → HoldsB (now (nodes .entry)) s m n i x z → r ≡ ownCost x) ⌝ }
 {
     let w = nodes[i];
-    if w % 16 == ITE {
+    if w % KINDS == ITE {
         let h = i + 1;
-        let end = (nodes[h] / 281474976710656) as usize;
+        let end = (nodes[h] / LAST) as usize;
         return sum_costs(nodes, i, end);
     }
-    sum_costs(nodes, i, (w / 281474976710656) as usize)
+    sum_costs(nodes, i, (w / LAST) as usize)
 }

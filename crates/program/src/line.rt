@@ -18,6 +18,17 @@ use nodes::kinds::ASSIGN;
 use nodes::kinds::GOTO;
 use nodes::kinds::ITE;
 use nodes::kinds::STEP;
+use nodes::layout::COUNTS;
+use nodes::layout::KINDS;
+use nodes::layout::LAST;
+use nodes::layout::NAME;
+use nodes::layout::NAMES;
+use nodes::layout::OP;
+use nodes::layout::OPS;
+use nodes::layout::POS;
+use nodes::layout::POSITIONS;
+use nodes::layout::WIDTH;
+use nodes::layout::WIDTHS;
 use stmts::sections::Place;
 use stmts::sections::codegen_from_goto;
 use stmts::sections::codegen_from_set;
@@ -68,9 +79,9 @@ pub fn codegen_from_head(
     ensures { λ r. ⌜ ((m : ℕ) (x : Block) (z : ℕ) → m ≤ 256 → HoldsB (now (nodes .entry)) (now (s .entry)) m 1 i x z → HeadDone m x (link .linked) (link .number) (link .next .0) slot c (lent (now (instrs .entry)) (now (numbers .entry)) (now (strings .entry)) (now (pool .entry)) (now (names .entry))) (lent (now (instrs .exit)) (now (numbers .exit)) (now (strings .exit)) (now (pool .exit)) (now (names .exit))) (now (sections .entry)) (now (sections .exit)) r) ⌝ }
 {
     let w = nodes[i];
-    let kind = w % 16;
+    let kind = w % KINDS;
     let h = i + 1;
-    let x = (w / 256 % 256) as usize;
+    let x = (w / NAME % NAMES) as usize;
     let next = link.next;
     let place = Place {
         slot,
@@ -94,7 +105,7 @@ pub fn codegen_from_head(
         );
     }
     if kind == STEP {
-        return codegen_from_step(sections, instrs, names, c, place, w / 16 % 16 == 1, x);
+        return codegen_from_step(sections, instrs, names, c, place, w / OP % OPS == 1, x);
     }
     if kind == ASSIGN {
         return codegen_from_set(
@@ -110,10 +121,10 @@ pub fn codegen_from_head(
             c,
             place,
             x,
-            w / 16 % 16,
+            w / OP % OPS,
         );
     }
-    let v = (w / 34359738368 % 8192) as u16;
+    let v = (w / WIDTH % WIDTHS) as u16;
     let first = link.number + 1;
     let other = Section(first + v);
     let test = Place {
@@ -158,18 +169,18 @@ fn codegen_from_inside(
     ensures { λ r. ⌜ ((m : ℕ) (x : Block) (z : ℕ) → m ≤ 256 → HoldsB (now (nodes .entry)) (now (s .entry)) m 1 i x z → InsideDone m x (link .linked) (link .number) (link .next .0) c (lent (now (instrs .entry)) (now (numbers .entry)) (now (strings .entry)) (now (pool .entry)) (now (names .entry))) (lent (now (instrs .exit)) (now (numbers .exit)) (now (strings .exit)) (now (pool .exit)) (now (names .exit))) (now (sections .entry)) (now (sections .exit)) r) ⌝ }
 {
     let w = nodes[i];
-    if w % 16 != ITE {
+    if w % KINDS != ITE {
         return c;
     }
     let h = i + 1;
-    let p = w / 65536 % 524288;
+    let p = w / POS % POSITIONS;
     let next = link.next;
     let inner = Link {
         linked: link.linked,
         number: link.number + 1,
         next,
     };
-    let node = (nodes[h] / 281474976710656) as usize;
+    let node = (nodes[h] / LAST) as usize;
     codegen_from_lists(
         s,
         nodes,
@@ -180,12 +191,12 @@ fn codegen_from_inside(
         pool,
         names,
         node,
-        (w / 256 % 256) as usize,
-        (p % 64) as usize,
+        (w / NAME % NAMES) as usize,
+        (p % COUNTS) as usize,
         depth,
         inner,
-        (w / 34359738368 % 8192) as u16,
-        (p / 64) as u16,
+        (w / WIDTH % WIDTHS) as u16,
+        (p / COUNTS) as u16,
         c,
     )
 }
@@ -274,7 +285,7 @@ pub fn codegen_from_line(
         strings,
         pool,
         names,
-        (w / 281474976710656) as usize,
+        (w / LAST) as usize,
         count - 1,
         depth,
         rest_link(w, link),

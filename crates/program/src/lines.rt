@@ -18,10 +18,8 @@ use crate::line::LineEnd;
 use crate::line::codegen_from_line;
 use bits::limits::MOST_NODES;
 use codegen::state::Counters;
+use tree::LINE_COUNTS;
 use words::instr::Section;
-
-// A line's word is its count of statements and its first node.
-const COUNTS: u64 = 64;
 
 // How many instructions the first statements of the lines from k on emit themselves.
 pub fn head_costs(nodes: &[u64], lines: &[u64], k: usize, count: usize) -> usize
@@ -33,10 +31,10 @@ pub fn head_costs(nodes: &[u64], lines: &[u64], k: usize, count: usize) -> usize
     }
     let w = lines[k];
     let others = head_costs(nodes, lines, k + 1, count);
-    if w % COUNTS == 0 {
+    if w % LINE_COUNTS == 0 {
         return others;
     }
-    own_cost(nodes, (w / COUNTS) as usize) + others
+    own_cost(nodes, (w / LINE_COUNTS) as usize) + others
 }
 
 // The line behind line k: errors go there, and so does the line's end.
@@ -101,8 +99,8 @@ pub fn codegen_from_lines(
         strings,
         pool,
         names,
-        (w / COUNTS) as usize,
-        (w % COUNTS) as usize,
+        (w / LINE_COUNTS) as usize,
+        (w % LINE_COUNTS) as usize,
         MOST_NODES,
         k as u16,
         number,

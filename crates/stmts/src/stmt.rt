@@ -25,6 +25,17 @@ use nodes::kinds::ASSIGN;
 use nodes::kinds::GOTO;
 use nodes::kinds::ITE;
 use nodes::kinds::STEP;
+use nodes::layout::COUNTS;
+use nodes::layout::KINDS;
+use nodes::layout::LAST;
+use nodes::layout::NAME;
+use nodes::layout::NAMES;
+use nodes::layout::OP;
+use nodes::layout::OPS;
+use nodes::layout::POS;
+use nodes::layout::POSITIONS;
+use nodes::layout::WIDTH;
+use nodes::layout::WIDTHS;
 use words::instr::Section;
 use words::section::SectionOrLine;
 
@@ -46,8 +57,8 @@ pub struct Ended {
 fn made(w: u64) -> u16
     ensures { λ r. ⌜ r ≡ madeBy w ⌝ }
 {
-    if w % 16 == ITE {
-        return (2 + w / 34359738368 % 8192 + w / 65536 % 524288 / 64) as u16;
+    if w % KINDS == ITE {
+        return (2 + w / WIDTH % WIDTHS + w / POS % POSITIONS / COUNTS) as u16;
     }
     1
 }
@@ -79,7 +90,7 @@ pub fn rest_link(w: u64, link: Link) -> Link
 {
     let number = link.number + made(w);
     let next = link.next;
-    if w % 16 == GOTO {
+    if w % KINDS == GOTO {
         return Link {
             linked: false,
             number,
@@ -112,9 +123,9 @@ pub fn codegen_from_stmt(
     ensures { λ r. ⌜ ((m : ℕ) (x : Block) (z : ℕ) → m ≤ 256 → HoldsB (now (nodes .entry)) (now (s .entry)) m 1 i x z → ListDone m x z (link .linked) (link .number) (link .next .0) c (lent (now (instrs .entry)) (now (numbers .entry)) (now (strings .entry)) (now (pool .entry)) (now (names .entry))) (lent (now (instrs .exit)) (now (numbers .exit)) (now (strings .exit)) (now (pool .exit)) (now (names .exit))) (now (sections .entry)) (now (sections .exit)) r z (link .number + width x)) ⌝ }
 {
     let w = nodes[i];
-    let kind = w % 16;
+    let kind = w % KINDS;
     let h = i + 1;
-    let x = (w / 256 % 256) as usize;
+    let x = (w / NAME % NAMES) as usize;
     let next = link.next;
     let place = Place {
         slot: link.number,
@@ -138,7 +149,7 @@ pub fn codegen_from_stmt(
         );
     }
     if kind == STEP {
-        return codegen_from_step(sections, instrs, names, c, place, w / 16 % 16 == 1, x);
+        return codegen_from_step(sections, instrs, names, c, place, w / OP % OPS == 1, x);
     }
     if kind == ASSIGN {
         return codegen_from_set(
@@ -154,7 +165,7 @@ pub fn codegen_from_stmt(
             c,
             place,
             x,
-            w / 16 % 16,
+            w / OP % OPS,
         );
     }
     codegen_from_ite(
@@ -193,9 +204,9 @@ fn codegen_from_ite(
 {
     let w = nodes[i];
     let h = i + 1;
-    let a = (w / 256 % 256) as usize;
-    let p = w / 65536 % 524288;
-    let v = (w / 34359738368 % 8192) as u16;
+    let a = (w / NAME % NAMES) as usize;
+    let p = w / POS % POSITIONS;
+    let v = (w / WIDTH % WIDTHS) as u16;
     let first = link.number + 1;
     let other = Section(first + v);
     let place = Place {
@@ -225,7 +236,7 @@ fn codegen_from_ite(
         number: first,
         next,
     };
-    let node = (nodes[h] / 281474976710656) as usize;
+    let node = (nodes[h] / LAST) as usize;
     codegen_from_lists(
         s,
         nodes,
@@ -237,11 +248,11 @@ fn codegen_from_ite(
         names,
         node,
         a,
-        (p % 64) as usize,
+        (p % COUNTS) as usize,
         depth,
         inner,
         v,
-        (p / 64) as u16,
+        (p / COUNTS) as u16,
         d,
     )
 }
@@ -415,7 +426,7 @@ pub fn codegen_and_link_stmts(
         c,
     );
     let others = rest_link(w, link);
-    let node = (w / 281474976710656) as usize;
+    let node = (w / LAST) as usize;
     codegen_and_link_stmts(
         s,
         nodes,

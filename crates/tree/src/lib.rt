@@ -29,6 +29,9 @@ use bits::refusal::ZERO_LINES;
 // Lines and names are counted below this.
 const HEAD_VALUES: u64 = 256;
 
+// A line's word is its count of statements, below this, and its first node.
+pub const LINE_COUNTS: u64 = 64;
+
 // What is counted of a tree.
 pub struct Sizes {
     pub lines: u64,
@@ -74,7 +77,7 @@ fn read_lines(s: &[u8], t: &mut [u64], ls: &mut [u64], c: Cursor, names: u64, li
         let Step::Next(count, e) = r else {
             return r;
         };
-        let w = count + 64 * (d.nodes as u64);
+        let w = count + LINE_COUNTS * (d.nodes as u64);
         ls[k] = w;
         d = e;
         k += 1;
