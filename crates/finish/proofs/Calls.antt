@@ -26,7 +26,8 @@ use Rattle.tables.specs.Runs.{held}
 use Rattle.tables.proofs.Read.{words-length}
 use Rattle.combine.specs.Loop.{put-twice}
 use Rattle.finish.specs.Passes.{Lowered, finishSections, Finished}
-use Rattle.finish.proofs.Lowered.{put-starts, held-is}
+use Rattle.walks.specs.Back.{put-begins}
+use Rattle.finish.proofs.Lowered.{held-is}
 
 -- ---- an answer by what it is found to be
 
@@ -126,8 +127,8 @@ module _ (o : Options) (s : List ℕ) (t t′ : Tables) where
           parsed = m .parsed;
           section-count = section-count;
           instr-count = instr-count;
-          sections = ap (take (u .sections)) section-words ∙ put-starts (room .sections) (u .sections) (runWords 0 before) (t .sections) (words-length 0 before ∙ section-count);
-          instrs = ap (take (u .instrs)) instr-words ∙ put-starts (room .instrs) (u .instrs) (map insWord (allCode before)) (t .instrs) (length-map (allCode before) insWord ∙ instr-count);
+          sections = ap (take (u .sections)) section-words ∙ put-begins 0 (room .sections) (u .sections) (runWords 0 before) (t .sections) (words-length 0 before ∙ section-count);
+          instrs = ap (take (u .instrs)) instr-words ∙ put-begins 0 (room .instrs) (u .instrs) (map insWord (allCode before)) (t .instrs) (length-map (allCode before) insWord ∙ instr-count);
         }
 
     module _ (s2 i2 : List ℕ) (r b : ℕ) (f : Finished (t′ .sections) (t′ .instrs) s2 i2 (u .sections) (u .instrs) r b) where

@@ -1,20 +1,23 @@
 -- The passes on an accepted tree's lowered machine: what each asks holds, and what both leave. Assumes nothing.
 use mathlib.Core.Path.{_≡_, sym, ap, _∙_, subst}
-use mathlib.Core.Bool.{Bool, true, false, cond}
-use mathlib.Core.List.{List, [], _∷_, _++_, map}
-use Prim.Native.Nat.{ℕ, suc, _-_, _≤_, max}
+use mathlib.Core.Bool.{true}
+use mathlib.Core.List.{List, map}
+use Prim.Native.Nat.{ℕ, _≤_}
 use native.Mathlib.Omega.{arith}
-use lib.ListN.{length, take, drop, replicate, length-take, length-map, length-append}
-use lib.Seq.{take-at, take-all}
+use lib.ListN.{length, take, length-take, length-map}
+use lib.Seq.{take-all}
 use Rattle.rules.specs.Word.{insWord}
-use Rattle.rules.specs.Machine.{SectionCode, Machine, isFixed}
+use Rattle.rules.specs.Machine.{SectionCode, Machine}
 use Rattle.rules.specs.Tables.{runWords, allCode, encode, countsOf}
-use Rattle.rules.specs.Clean.{renIns, ren, keep, rank, cleanSections, cleaned}
+use Rattle.rules.specs.Clean.{cleanSections, cleaned}
 use Rattle.rules.specs.Combine.{combineSections}
 use Rattle.rules.specs.Lowered.{lowered, finished}
-use Rattle.rules.specs.Operations.{put, allAhead}
+use Rattle.rules.specs.Operations.{allAhead}
 use Rattle.walks.specs.Fits.{MachineFit, encoded-fits}
-use Rattle.walks.specs.TreeFits.{lowered-fit, cleaned-fit}
+use Rattle.walks.specs.Estimate.{code-length}
+use Rattle.walks.specs.Targets.{clean-length}
+use Rattle.walks.specs.TreeFits.{keep-length, clean-len, lowered-fit, cleaned-fit}
+use Rattle.walks.specs.Back.{put-begins}
 use Rattle.walks.specs.Theorems.{combined-is}
 use Rattle.tables.specs.Runs.{total, held}
 use Rattle.tables.proofs.Sound.{sound}
@@ -36,23 +39,8 @@ runs-cover m f =
 
 -- ---- cleaning leaves no more than there was
 
-kept-less : (f : ℕ → ℕ) (m : List SectionCode) → (length (map (ren f) (keep m)) ≤ length m) × (length (allCode (map (ren f) (keep m))) ≤ length (allCode m))
-unfolding allCode
-kept-less f [] = (omega arith, omega arith)
-kept-less f (s ∷ m) = go (isFixed (s .success)) (kept-less f m)
-  where
-    go : (b : Bool) → (length (map (ren f) (keep m)) ≤ length m) × (length (allCode (map (ren f) (keep m))) ≤ length (allCode m))
-        → (length (map (ren f) (cond b (s ∷ keep m) (keep m))) ≤ suc (length m)) × (length (allCode (map (ren f) (cond b (s ∷ keep m) (keep m)))) ≤ length (s .instrs ++ allCode m))
-    go true h = (omega (arith, h .0), omega (arith, h .1, length-append (map (renIns f) (s .instrs)) (allCode (map (ren f) (keep m))), length-append (s .instrs) (allCode m), length-map (s .instrs) (renIns f)))
-    go false h = (omega (arith, h .0), omega (arith, h .1, length-append (s .instrs) (allCode m)))
-
 clean-less : (m : List SectionCode) → (length (cleanSections m) ≤ length m) × (length (allCode (cleanSections m)) ≤ length (allCode m))
-unfolding cleanSections
-clean-less m = kept-less (rank m) m
-
-pub put-starts : (n k : ℕ) (ws t : List ℕ) → length ws ≡ k → take k (put 0 n ws t) ≡ ws
-unfolding put
-put-starts n k ws t h = take-at ws (replicate (n - length ws) 0 ++ drop (max n (length ws)) t) k h
+clean-less m = (omega (arith, clean-length m, keep-length m), omega (arith, clean-len m, code-length m, code-length (cleanSections m)))
 
 -- ---- the passes
 
@@ -88,8 +76,8 @@ module _ (s i : List ℕ) (n e : ℕ) (l : Lowered s i n e) where
         let cs = cleanSections (held s i n e) in
         let q = sym cleaned-held in
         ready (cleaned machine) (cleaned-fit (l .options) (l .file) (l .tree) (l .parsed)) s1 i1 m b (ap length cleaned-held ∙ sym (c .section-count)) (ap (λ (x : List SectionCode). length (allCode x)) cleaned-held ∙ sym (c .instr-count))
-        (ap (take m) (c .sections) ∙ (put-starts n m (runWords 0 cs) s (words-length 0 cs ∙ sym (c .section-count)) ∙ ap (runWords 0) q))
-        (ap (take b) (c .instrs) ∙ (put-starts e b (map insWord (allCode cs)) i (length-map (allCode cs) insWord ∙ sym (c .instr-count)) ∙ ap (λ (x : List SectionCode). map insWord (allCode x)) q))
+        (ap (take m) (c .sections) ∙ (put-begins 0 n m (runWords 0 cs) s (words-length 0 cs ∙ sym (c .section-count)) ∙ ap (runWords 0) q))
+        (ap (take b) (c .instrs) ∙ (put-begins 0 e b (map insWord (allCode cs)) i (length-map (allCode cs) insWord ∙ sym (c .instr-count)) ∙ ap (λ (x : List SectionCode). map insWord (allCode x)) q))
         (encode machine) (finished (l .options) (l .tree)) (combined-is (l .options) (l .file) (l .tree) (l .parsed) (encode machine))
 
     -- what combining asks

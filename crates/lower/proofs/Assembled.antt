@@ -1,24 +1,21 @@
 -- The machine before replacement: its words keep the rules, if they have not too many instructions. Assumes nothing.
-use mathlib.Core.Path.{_≡_, refl, sym, ap, subst}
-use mathlib.Core.Bool.{Bool, true, false}
+use mathlib.Core.Path.{_≡_, sym, ap, subst}
 use mathlib.Core.List.{List, [], _∷_}
 use Prim.Native.Nat.{ℕ, _≤_, _<_}
 use native.Mathlib.Omega.{arith}
 use lib.ListN.{length}
-use borrow.Author.Tests.{leb-true}
 use Rattle.rules.specs.Bits.{ok}
 use Rattle.rules.specs.Tree.{Tree}
-use Rattle.rules.specs.Instr.{Instruction, isJump, shown, kinds}
+use Rattle.rules.specs.Instr.{Instruction}
 use Rattle.rules.specs.Parse.{parse}
 use Rattle.rules.specs.Script.{Stmts, nil, plain, goto, ite, Script}
 use Rattle.rules.specs.Tables.{Counts, allCode, countsOf}
 use Rattle.rules.specs.Annotate.{annotate}
-use Rattle.rules.specs.Assemble.{condJump, sectionsOf}
+use Rattle.rules.specs.Assemble.{sectionsOf}
 use Rattle.rules.specs.Lowered.{Options, spans, texts, assemble, lowered}
 use Rattle.rules.specs.Demand.{All, RegistersBelow}
 use Rattle.walks.specs.Claim.{CodeGood, GoodWhole}
-use Rattle.walks.specs.Jumps.{aimed-other}
-use Rattle.walks.specs.Quiet.{aside}
+use Rattle.walks.specs.Quiet.{shown-regs, cond-regs}
 use Rattle.walks.specs.Room.{Room, roomOf, Ok}
 use Rattle.walks.specs.Own.{Whole, whole-grows, annotate-made}
 use Rattle.walks.specs.LimitsTree.{limits}
@@ -42,26 +39,15 @@ module _ (u : Counts) where
   abbrev G : ℕ → Type 0
   G r = r < u .numbers
 
-  shown-below : (i : Instruction) → RegistersBelow u i → RegistersBelow u (shown i)
-  shown-below i h = go (isJump i) refl
-    where
-      go : (b : Bool) → isJump i ≡ b → RegistersBelow u (shown i)
-      go true e = aside u (i .op) (i .fst) (shown i .fst) (i .snd) (i .thd) (leb-true (i .op) 1 e) h
-      go false e = subst (RegistersBelow u) (sym (aimed-other 0 i e)) h
-
   code-good : (c : List Instruction) → All (Ok u) c → CodeGood P c
   code-good [] h = tt
-  code-good (i ∷ c) h = (shown-below i (h .0 .regs), code-good c (h .1))
-
-  cond-below : (c : ℕ) → c < u .numbers → RegistersBelow u (condJump 0 c)
-  unfolding kinds
-  cond-below c h = (tt, h, refl)
+  code-good (i ∷ c) h = (shown-regs u i (h .0 .regs), code-good c (h .1))
 
   whole-good : (s : Stmts) → Whole u s → GoodWhole P G s
   whole-good nil h = tt
   whole-good (plain o s) h = (code-good o (h .0), whole-good s (h .1))
   whole-good (goto o r s) h = (code-good o (h .0), h .1, whole-good s (h .2))
-  whole-good (ite o c t e s) h = (code-good o (h .0), cond-below c (h .1), whole-good t (h .2), whole-good e (h .3), whole-good s (h .4))
+  whole-good (ite o c t e s) h = (code-good o (h .0), cond-regs u c (h .1), whole-good t (h .2), whole-good e (h .3), whole-good s (h .4))
 
 script-good : (u w : Counts) → Room u w → (t : Script) → All (Whole u) t → All (GoodWhole (RegistersBelow w) (λ r. r < w .numbers)) t
 script-good u w r [] h = tt

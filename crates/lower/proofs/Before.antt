@@ -24,7 +24,7 @@ use Rattle.words.specs.declared.instr.Replaced.{Replaced}
 use Rattle.words.specs.declared.instr.Replaced.the-variants.{Stays, Goes, Turns, Number, Blank}
 use Rattle.tables.specs.Runs.{held}
 use Rattle.tables.proofs.Read.{whole-total}
-use Rattle.tables.proofs.Sound.{no, Counted, sound}
+use Rattle.tables.proofs.Sound.{both, Counted, sound}
 use Rattle.tables.proofs.Change.{machineOf, change-ok}
 use Rattle.replace.specs.Pass.{numbersBy, stringsBy, numberOf, stringOf, sums, AddsAll, Plain, Ready}
 use Rattle.replace.proofs.Adding.{sums-nil, sums-cons}
@@ -90,10 +90,6 @@ added t e =
     record { numbers = refl; strings = refl; numbers-few = omega arith; strings-few = omega arith }
 
 -- ---- what replacement asks of laid words
-
-pub both : (a b : Bool) → a && b ≡ true → (a ≡ true) × (b ≡ true)
-both true b e = (refl, e)
-both false b e = absurd (no e)
 
 fit-slots : {A B : Type 0} (ws : List A) (t : List B) → length ws ≤ length t → length ws ≤ mostCount → slots ws t ≡ true
 unfolding slots

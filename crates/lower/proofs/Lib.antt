@@ -1,4 +1,3 @@
-pub mod ZeroLoop
 pub mod Words
 pub mod Assembled
 pub mod Before

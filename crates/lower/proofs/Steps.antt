@@ -12,7 +12,7 @@ use borrow.Author.Tests.{leb-true}
 use Rattle.rules.specs.Bits.{refused, ok}
 use Rattle.rules.specs.Refusal as Refusal
 use Rattle.rules.specs.Constants.{mostNodes, mostLines, mostCount}
-use Rattle.rules.specs.Tree.{Tree, Expr, Block, both, node, statement, ofExpr, ofBlock, ofLines, binop, unop, ident, number, string, goto, ite, assign, end}
+use Rattle.rules.specs.Tree.{Tree, Block, ofLines, both as bothTallies}
 use Rattle.rules.specs.Tree as Tree
 use Rattle.rules.specs.Parse.{parse}
 use Rattle.rules.specs.Word.{insWord}
@@ -22,8 +22,9 @@ use Rattle.rules.specs.Operations.{Size, sizeOf, estimate, holds, build, lower}
 use Rattle.walks.specs.Parsed.{parsed}
 use Rattle.walks.specs.LimitsTree.{limits}
 use Rattle.walks.specs.Estimate.{estimated}
-use Rattle.walks.specs.Bounds.{small}
+use Rattle.walks.specs.Bounds.{small, few-lines}
 use Rattle.nodes.proofs.Width.{four}
+use Rattle.tables.proofs.Sound.{both}
 use Rattle.replace.specs.Pass.{Ready, Rewrote}
 use Rattle.tree.specs.Files.{HoldsTree, Placed, Treed, TreeAt, TreeRead, sized, widths}
 use Rattle.tree.specs.declared.Sizes.{Sizes}
@@ -37,30 +38,8 @@ use Rattle.lower.proofs.Done as Done
 
 -- ---- counts of a tree
 
-no-statement : (e : Expr) → ofExpr e .statements ≡ 0
-unfolding ofExpr node both Tree.none
-no-statement (binop o l r) = omega (arith, no-statement l, no-statement r)
-no-statement (unop o r) = no-statement r
-no-statement (Expr.incdec b x) = refl
-no-statement (ident x) = refl
-no-statement (number z) = refl
-no-statement (string t) = refl
-
-few-statements : (b : Block) → ofBlock b .statements ≤ ofBlock b .nodes
-unfolding ofBlock statement node both Tree.none
-few-statements end = omega arith
-few-statements (goto e s) = omega (arith, no-statement e, few-statements s)
-few-statements (ite c t e s) = omega (arith, no-statement c, few-statements t, few-statements e, few-statements s)
-few-statements (Block.incdec i x s) = omega (arith, few-statements s)
-few-statements (assign x o e s) = omega (arith, no-statement e, few-statements s)
-
-lines-statements : (bs : List Block) → ofLines bs .statements ≤ ofLines bs .nodes
-unfolding ofLines both Tree.none
-lines-statements [] = omega arith
-lines-statements (b ∷ bs) = omega (arith, few-statements b, lines-statements bs)
-
 lines-widths : (bs : List Block) → widths bs ≤ 4 * ofLines bs .statements
-unfolding widths ofLines both Tree.none
+unfolding widths ofLines bothTallies Tree.none
 lines-widths [] = omega arith
 lines-widths (b ∷ bs) = omega (arith, four b, lines-widths bs)
 
@@ -82,11 +61,11 @@ rooms l u e =
     let c = leb (u .numbers) (length (l .numbers)) in
     let d = leb (u .strings) (length (l .strings)) in
     let f = leb (u .pool) (length (l .pool)) in
-    let p = Before.both (a && b && c && d && f) _ e in
-    let q = Before.both (a && b && c && d) _ (p .0) in
-    let r = Before.both (a && b && c) _ (q .0) in
-    let s = Before.both (a && b) _ (r .0) in
-    let t = Before.both a _ (s .0) in
+    let p = both (a && b && c && d && f) _ e in
+    let q = both (a && b && c && d) _ (p .0) in
+    let r = both (a && b && c) _ (q .0) in
+    let s = both (a && b) _ (r .0) in
+    let t = both a _ (s .0) in
     record {
       sections = leb-true _ _ (t .0);
       instrs = leb-true _ _ (t .1);
@@ -110,7 +89,7 @@ module _ {s t ls : List ℕ} {z : Sizes} (h : Treed s t ls z) where
   unfolding sizeOf
   limited =
       let k = limits s (h .val) (h .parses) in
-      let n = lines-statements (h .val .lines) in
+      let n = few-lines (h .val .lines) .statements in
       rw (h .size-is) (record { lines = omega (arith, k .most-lines); statements = omega (arith, n, k .most-nodes); nodes = k .most-nodes })
 
   pub given : (u : Counts) → u ≡ estimate (sized z) → mostNodes ≤ length t → mostLines ≤ length ls → Given s t ls u
@@ -139,7 +118,7 @@ module _ (s t ls : List ℕ) (u : Counts) (l : Tables) (h : Roomy s t ls u l) wh
       let r = rooms l u (h .room) in
       let e = g .estimates in
       let w = lines-widths (x .lines) in
-      let n = lines-statements (x .lines) in
+      let n = few-lines (x .lines) .statements in
       let y = estimated defaults x in
       let v = small defaults s x (g .parses) in
       let sections = ap (λ (c : Counts). c .sections) e in

@@ -1,6 +1,5 @@
 -- The whole machine's words from the sections of all lines, the registers and the names. Assumes nothing.
 use mathlib.Core.Path.{_≡_, refl, sym, ap, _∙_}
-use mathlib.Core.Bool.{true}
 use mathlib.Core.List.{List, [], _∷_, _++_, map}
 use mathlib.Core.Option.{Option, none, some}
 use Prim.Native.Nat.{ℕ, zero, suc, _+_, _*_, _≤_, _<_}
@@ -15,11 +14,14 @@ use Rattle.rules.specs.Tree as Tree
 use Rattle.rules.specs.Machine.{Machine}
 use Rattle.rules.specs.Tables.{Tables, Counts, runWords, allCode, encode, countsOf}
 use Rattle.rules.specs.Script.{Script}
-use Rattle.rules.specs.Assemble.{stmtSections, sectionsMade, nextLine, tailOf, heads, tails, sectionsOf}
+use Rattle.rules.specs.Assemble.{heads, tails, sectionsOf}
 use Rattle.rules.specs.CodegenData.{CodegenData}
 use Rattle.rules.specs.Annotate.{annotate, annotateStmts, annotateLines, fresh}
 use Rattle.rules.specs.Lowered.{Options, nameWords, spans, texts, assemble}
-use Rattle.walks.specs.LowerWalk.{heads-length, length-low, length-tailOf}
+use Rattle.walks.specs.LowerWalk.{heads-length}
+use Rattle.walks.specs.Own.{sizes}
+use Rattle.walks.specs.Estimate.{sections-length, names-length}
+use Rattle.walks.specs.DemandProof.{length-spans}
 use Rattle.nodes.specs.Holds.{HoldsE, HoldsB, at-binop, at-unop, at-incdec, at-ident, at-number, at-string, at-end, at-goto, at-ite, at-step, at-assign}
 use Rattle.tree.specs.Files.{HoldsL, no-line, a-line, widths}
 use Rattle.tables.specs.Lent.{tables}
@@ -96,33 +98,11 @@ start n c is ns ss ps m1 ms a b d e h =
 
 -- ---- the whole
 
-spans-length : (p : ℕ) (ts : List (List ℕ)) → length (spans p ts) ≡ length ts
-unfolding spans
-spans-length p [] = refl
-spans-length p (t ∷ ts) = ap suc (spans-length (p + length t) ts)
-
-names-length : (o : Options) (ns : List Name) (vs : List (Option ℕ)) → length vs ≡ length ns → length (nameWords o ns vs) ≡ length ns
-unfolding nameWords
-names-length o [] vs h = refl
-names-length o (n ∷ ns) [] h = absurd (omega arith)
-names-length o (n ∷ ns) (v ∷ vs) h = ap suc (names-length o ns vs (omega arith))
-
--- what stands behind the lines' numbers
-tails-length : (L i n : ℕ) (bs : List Block) (g : CodegenData) → length (tails L i n (annotateLines bs g .0)) ≡ widths bs
+-- the sections of all lines
+script-sizes : (bs : List Block) (g : CodegenData) → sizes (annotateLines bs g .0) ≡ widths bs
 unfolding annotateLines widths
-tails-length L i n [] g = refl
-tails-length L i n (b ∷ bs) g =
-    let s = annotateStmts b g .0 in
-    let l = stmtSections true (nextLine L i) n (nextLine L i) s in
-    let h = tails-length L (suc i) (n + sectionsMade s) bs (annotateStmts b g .1) in
-    rw (length-append (tailOf l) (tails L (suc i) (n + sectionsMade s) (annotateLines bs (annotateStmts b g .1) .0))) (omega (arith, h, length-tailOf l, length-low true (nextLine L i) n (nextLine L i) s, made-width b g))
-
-sections-number : (L : ℕ) (bs : List Block) (g : CodegenData) → length bs ≡ L → length (sectionsOf (annotateLines bs g .0)) ≡ L + widths bs
-unfolding sectionsOf
-sections-number L bs g e =
-    let ss = annotateLines bs g .0 in
-    let sl : length ss ≡ L = script-length bs g ∙ e in
-    rw (sl, length-append (heads L 0 L ss) (tails L 0 L ss)) (omega (arith, heads-length L 0 L ss, sl, tails-length L 0 L bs g))
+script-sizes [] g = refl
+script-sizes (b ∷ bs) g = omega (arith, made-width b g, script-sizes bs (annotateStmts b g .1))
 
 -- how far the counters went
 pub record Room (c : Counters) (number il nl sl pl zl : ℕ) : Type 0 where
@@ -174,12 +154,12 @@ laid o x {L} {n} {head'} {number} {c} {c'} {is} {is'} {ns} {ns'} {ss} {ss'} {ps}
     let g = annotateLines (x .lines) g0 .1 in
     let sl : length script ≡ L = script-length (x .lines) g0 ∙ el in
     let j = joined script L (ownCosts (x .lines)) head' number c c' is is' se se' sl ha (d .cost) (w .parted) in
-    let number-is : number ≡ length (sectionsOf script) = d .number-is ∙ sym (sections-number L (x .lines) g0 el) in
+    let number-is : number ≡ length (sectionsOf script) = omega (arith, d .number-is, sections-length script, sl, script-sizes (x .lines) g0) in
     let r = w .regs in
     let lc = length-map insWord (allCode (sectionsOf script)) in
     let lr = runs-length 0 (sectionsOf script) in
     let lp = length-map spanWord (spans 0 (g .strings)) in
-    let ls = spans-length 0 (g .strings) in
+    let ls = length-spans o x 0 (g .strings) in
     let vl : length (g .names) ≡ n = r .named ∙ en in
     let nm = hp (g .names) vl (r .name-words ∙ ap (λ (k : ℕ). map regWord (g .names) ++ drop k ms) en) in
     let nl : length (nameWords o (x .names) (g .names)) ≡ n = names-length o (x .names) (g .names) (r .named) ∙ en in

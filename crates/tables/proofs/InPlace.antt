@@ -37,13 +37,15 @@ module _ (g : ℕ → ℕ) (s : List ℕ) (i n : ℕ) where
 
 -- ---- zeros
 
-pub zero-done : (s : List ℕ) (i n : ℕ) → n ≤ i → i ≤ n → take i s ++ (replicate (n - i) 0 ++ drop n s) ≡ s
-zero-done s i n a b = let e : i ≡ n = omega arith in rw (e, sub-self) (take-append-drop n s)
+-- whatever a zero is there
+module _ {A : Type 0} (z : A) (s : List A) (i n : ℕ) where
+  pub zero-done : n ≤ i → i ≤ n → take i s ++ (replicate (n - i) z ++ drop n s) ≡ s
+  zero-done a b = let e : i ≡ n = omega arith in rw (e, sub-self) (take-append-drop n s)
 
-pub zero-more : (s : List ℕ) (i n : ℕ) → i < n → n ≤ length s → take (i + 1) (set s i 0) ++ (replicate (n - (i + 1)) 0 ++ drop n (set s i 0)) ≡ take i s ++ (replicate (n - i) 0 ++ drop n s)
-zero-more s i n h l =
-    let e : n - i ≡ suc (n - (i + 1)) = omega arith in
-    rw (set-taken s i n 0 h l, set-rest s i n 0 h l, e) (append-snoc (take i s) 0 (replicate (n - (i + 1)) 0 ++ drop n s))
+  pub zero-more : i < n → n ≤ length s → take (i + 1) (set s i z) ++ (replicate (n - (i + 1)) z ++ drop n (set s i z)) ≡ take i s ++ (replicate (n - i) z ++ drop n s)
+  zero-more h l =
+      let e : n - i ≡ suc (n - (i + 1)) = omega arith in
+      rw (set-taken s i n z h l, set-rest s i n z h l, e) (append-snoc (take i s) z (replicate (n - (i + 1)) z ++ drop n s))
 
 -- ---- lists that agree from a place on
 

@@ -23,7 +23,7 @@ abbrev Each : List Bool → Type 0
 Each [] = Unit {0}
 Each (b ∷ bs) = (b ≡ true) × Each bs
 
-both : (a b : Bool) → a && b ≡ true → (a ≡ true) × (b ≡ true)
+pub both : (a b : Bool) → a && b ≡ true → (a ≡ true) × (b ≡ true)
 both true b e = (refl, e)
 both false b e = absurd (no e)
 

@@ -124,7 +124,7 @@ tables-back m f l h =
 
 -- ---- written by lower and finish
 
-put-begins : {A : Type 0} (z : A) (n k : ℕ) (ws t : List A) → length ws ≡ k → take k (put z n ws t) ≡ ws
+pub put-begins : {A : Type 0} (z : A) (n k : ℕ) (ws t : List A) → length ws ≡ k → take k (put z n ws t) ≡ ws
 unfolding put
 put-begins z n k ws t e = take-at ws (replicate (n - length ws) z ++ drop (max n (length ws)) t) k e
 

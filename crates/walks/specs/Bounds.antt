@@ -16,9 +16,9 @@ use Rattle.walks.specs.LimitsTree.{Limits, limits}
 use Rattle.walks.specs.Own.{annotate-made}
 use Rattle.walks.specs.Estimate.{WithinEstimate, estimated}
 
-record Few (k : Tally) : Type 0 where
-  statements : k .statements ≤ k .nodes
-  strings : k .strings ≤ k .nodes
+pub record Few (k : Tally) : Type 0 where
+  pub statements : k .statements ≤ k .nodes
+  pub strings : k .strings ≤ k .nodes
 
 few-both : (j k : Tally) → Few j → Few k → Few (both j k)
 unfolding both
@@ -46,7 +46,7 @@ few-block (ite c t e s) =
 few-block (Block.incdec i x s) = let q = few-block s in record { statements = omega (arith, q .statements); strings = omega (arith, q .strings) }
 few-block (assign x o e s) = let p = few-expr e in let q = few-block s in record { statements = omega (arith, p .0, q .statements); strings = omega (arith, p .1, q .strings) }
 
-few-lines : (bs : List Block) → Few (ofLines bs)
+pub few-lines : (bs : List Block) → Few (ofLines bs)
 unfolding ofLines Tree.none
 few-lines [] = record { statements = omega arith; strings = omega arith }
 few-lines (b ∷ bs) = few-both (ofBlock b) (ofLines bs) (few-block b) (few-lines bs)

@@ -133,7 +133,7 @@ replaced-len p σ (s ∷ m) = let x = replaceCode p σ (s .instrs) in omega (ari
 
 -- ---- names
 
-names-length : (o : Options) (ns : List Name) (vs : List (Option ℕ)) → length vs ≡ length ns → length (nameWords o ns vs) ≡ length ns
+pub names-length : (o : Options) (ns : List Name) (vs : List (Option ℕ)) → length vs ≡ length ns → length (nameWords o ns vs) ≡ length ns
 unfolding nameWords
 names-length o [] vs h = refl
 names-length o (n ∷ ns) [] h = absurd (omega arith)

@@ -29,12 +29,17 @@ aside u zero a b c d h f = (tt, f .1, f .2)
 aside u (suc zero) a b c d h f = (tt, f .1, f .2)
 aside u (suc (suc o)) a b c d h f = absurd (omega arith)
 
-shown-regs : (u : Counts) (i : Instruction) → RegistersBelow u i → RegistersBelow u (shown i)
+pub shown-regs : (u : Counts) (i : Instruction) → RegistersBelow u i → RegistersBelow u (shown i)
 shown-regs u i h = go (isJump i) refl
   where
     go : (b : Bool) → isJump i ≡ b → RegistersBelow u (shown i)
     go true e = aside u (i .op) (i .fst) (shown i .fst) (i .snd) (i .thd) (leb-true (i .op) 1 e) h
     go false e = subst (RegistersBelow u) (sym (aimed-other 0 i e)) h
+
+-- an Ite's jump
+pub cond-regs : (u : Counts) (c : ℕ) → c < u .numbers → RegistersBelow u (condJump 0 c)
+unfolding kinds
+cond-regs u c h = (tt, h, refl)
 
 -- ---- the rules' opcodes take the same first register
 
@@ -115,10 +120,6 @@ module _ (u : Counts) (p : ℕ) where
 
   -- ---- lists
 
-  cond-regs : (c : ℕ) → c < u .numbers → RegistersBelow u (condJump 0 c)
-  unfolding kinds
-  cond-regs c h = (tt, h, refl)
-
   all-quiet : (s : Stmts) → Whole u s → (σ : Regs) → repAll p σ s .1 ≡ σ
   all-quiet nil h σ = refl
   all-quiet (plain o s) h σ = all-quiet s (h .1) (replaceCode p σ o .1) ∙ code-quiet o (h .0) σ
@@ -137,7 +138,7 @@ module _ (u : Counts) (p : ℕ) where
       let x = replaceCode p σ o in
       let a = repAll p (x .1) t in
       let b = repAll p (a .1) f in
-      (code-good o (h .0) σ, cond-regs c (h .1), all-good t (h .2) (x .1), all-good f (h .3) (a .1), all-good s (h .4) (b .1))
+      (code-good o (h .0) σ, cond-regs u c (h .1), all-good t (h .2) (x .1), all-good f (h .3) (a .1), all-good s (h .4) (b .1))
 
   -- A list whose first statement's own instructions have been replaced.
   abbrev Half : Stmts → Type 0
@@ -174,7 +175,7 @@ module _ (u : Counts) (p : ℕ) where
   rest-good (ite o c t f s) h σ =
       let a = repAll p σ t in
       let b = repAll p (a .1) f in
-      (h .0, cond-regs c (h .1), all-good t (h .2) σ, all-good f (h .3) (a .1), all-good s (h .4) (b .1))
+      (h .0, cond-regs u c (h .1), all-good t (h .2) σ, all-good f (h .3) (a .1), all-good s (h .4) (b .1))
 
   -- ---- lines
 

@@ -55,7 +55,7 @@ keep-len (s ∷ m) = go (isFixed (s .success)) (keep-len m)
     go true h = omega arith
     go false h = omega arith
 
-keep-length : (m : List SectionCode) → length (keep m) ≤ length m
+pub keep-length : (m : List SectionCode) → length (keep m) ≤ length m
 keep-length [] = omega arith
 keep-length (s ∷ m) = go (isFixed (s .success)) (keep-length m)
   where
@@ -63,7 +63,7 @@ keep-length (s ∷ m) = go (isFixed (s .success)) (keep-length m)
     go true h = omega arith
     go false h = omega arith
 
-clean-len : (m : List SectionCode) → codeLen (cleanSections m) ≤ codeLen m
+pub clean-len : (m : List SectionCode) → codeLen (cleanSections m) ≤ codeLen m
 unfolding cleanSections
 clean-len m = omega (arith, keep-len m, map-len (rank m) (keep m))
 

@@ -6,7 +6,7 @@ use Prim.Native.Nat.{_≤_, _<_, _-_}
 use native.Mathlib.Omega.{arith}
 use mathlib.Core.Path.{_≡_, refl, sym, _∙_}
 use borrow.Author.Needs.{needs}
-use Rattle.lower.proofs.ZeroLoop.{zeros-done, zeros-more}
+use Rattle.tables.proofs.InPlace.{zero-done, zero-more}
 use Rattle.lower.proofs.zeros.zero_numbers.Statement.{statement}
 use Rattle.lower.proofs.zeros.zero_numbers.Tie as tie
 
@@ -38,13 +38,13 @@ loop-again c =
     let p = c .before .before .pre in
     let len : c .before .before .args .to ≤ length (l .t) = omega arith in
     let more : l .i < c .before .before .args .to = omega arith in
-    (search needs, search needs, simp length-set (i .2), zeros-more (pos 0) (l .t) (l .i) (c .before .before .args .to) more len ∙ i .3)
+    (search needs, search needs, simp length-set (i .2), zero-more (pos 0) (l .t) (l .i) (c .before .before .args .to) more len ∙ i .3)
 
 same-length : tie.Need-same-length Inv-loop μ-loop
 same-length c = search needs
 
 returns : tie.Need-returns Inv-loop μ-loop
-returns c = let l = c .before .loop in sym (zeros-done (pos 0) _ _ _ (c .loop-test .left) (l .inv .1)) ∙ l .inv .3
+returns c = let l = c .before .loop in sym (zero-done (pos 0) _ _ _ (c .loop-test .left) (l .inv .1)) ∙ l .inv .3
 
 pub zero-numbers-spec : {M : Type 1} → statement M
 zero-numbers-spec =

@@ -36,13 +36,13 @@ loop-again c =
     let i = l .inv in
     let p = c .before .before .pre in
     let len : c .before .before .args .to ≤ length (l .t) = omega arith in
-    (search needs, search needs, simp length-set (i .2), zero-more (l .t) (l .i) (c .before .before .args .to) (c .loop-test .taken) len ∙ i .3)
+    (search needs, search needs, simp length-set (i .2), zero-more 0 (l .t) (l .i) (c .before .before .args .to) (c .loop-test .taken) len ∙ i .3)
 
 same-length : tie.Need-same-length Inv-loop μ-loop
 same-length c = search needs
 
 returns : tie.Need-returns Inv-loop μ-loop
-returns c = let l = c .before .loop in sym (zero-done _ _ _ (c .loop-test .left) (l .inv .1)) ∙ l .inv .3
+returns c = let l = c .before .loop in sym (zero-done 0 _ _ _ (c .loop-test .left) (l .inv .1)) ∙ l .inv .3
 
 pub zero-spec : {M : Type 1} → statement M
 zero-spec =
