@@ -97,7 +97,7 @@ impl Names<'_> {
     }
 }
 
-fn program(tree: &tree::Tree) -> Program {
+pub fn program(tree: &tree::Tree) -> Program {
     let names = Names(&tree.names);
     Program { lines: tree.lines.iter().map(|line| Line { stmts: names.list(line) }).collect() }
 }
@@ -228,15 +228,27 @@ pub fn lower(tree: &tree::Tree, locals: bool, globals: bool) -> Machine {
 
 /// Lowered, cleaned, combined until nothing is left to join; never reordered.
 pub fn finish(tree: &tree::Tree, locals: bool, globals: bool) -> Machine {
-    let mut vm = from_tree(tree, locals, globals);
-    clean_vm(&mut vm);
-    combine_vm(&mut vm);
-    of_tree(&vm, tree)
+    of_tree(&finish_program(program(tree), locals, globals), tree)
 }
 
 fn from_tree(tree: &tree::Tree, locals: bool, globals: bool) -> IRMachine {
-    IRMachine::from_ast(CodegenOptions { protect_locals: locals, protect_globals: globals }, program(tree))
+    lower_program(program(tree), locals, globals)
 }
+
+// ---- yogi's own part alone, for whoever measures it or has a program of yogi's
+
+pub fn lower_program(program: Program, locals: bool, globals: bool) -> IRMachine {
+    IRMachine::from_ast(CodegenOptions { protect_locals: locals, protect_globals: globals }, program)
+}
+
+pub fn finish_program(program: Program, locals: bool, globals: bool) -> IRMachine {
+    let mut vm = lower_program(program, locals, globals);
+    clean_vm(&mut vm);
+    combine_vm(&mut vm);
+    vm
+}
+
+// ---- the passes
 
 pub fn replace(machine: &Machine) -> Machine {
     change(machine, IRMachine::replace_duplicates)
