@@ -57,13 +57,12 @@ fn axes(out: &mut String) {
     text(out, (LEFT + right) / 2.0, HEIGHT - 10.0, "middle", "nodes (Ites and assignments on 20 lines)");
 }
 
-fn curve(out: &mut String, points: &[(f64, Times)], (name, colour, time): Curve) {
+fn curve(out: &mut String, points: &[(f64, Times)], i: usize, (name, colour, time): Curve) {
     let path: Vec<String> = points.iter().map(|(nodes, t)| format!("{:.1} {:.1}", x(*nodes), y(time(t)))).collect();
     writeln!(out, "<path d=\"M{}\" fill=\"none\" stroke=\"{colour}\" stroke-width=\"2\"/>", path.join("L")).unwrap();
-    let (nodes, last) = points.last().expect("a point");
-    writeln!(out, "<g fill=\"{colour}\">").unwrap();
-    text(out, x(*nodes) + 6.0, y(time(last)) + 4.0, "start", name);
-    out.push_str("</g>\n");
+    let (left, line) = (WIDTH - RIGHT + 20.0, ABOVE + 20.0 * (i + 1) as f64);
+    writeln!(out, "<path d=\"M{left} {line}h24\" stroke=\"{colour}\" stroke-width=\"2\"/>").unwrap();
+    text(out, left + 32.0, line + 4.0, "start", name);
 }
 
 pub fn growth() -> String {
@@ -76,6 +75,6 @@ pub fn growth() -> String {
     let mut out = format!("<svg xmlns=\"http://www.w3.org/2000/svg\" width=\"{WIDTH}\" height=\"{HEIGHT}\" font-family=\"sans-serif\" font-size=\"12\">\n");
     out.push_str("<rect width=\"100%\" height=\"100%\" fill=\"white\"/>\n");
     axes(&mut out);
-    CURVES.into_iter().for_each(|c| curve(&mut out, &points, c));
+    CURVES.into_iter().enumerate().for_each(|(i, c)| curve(&mut out, &points, i, c));
     out + "</svg>\n"
 }

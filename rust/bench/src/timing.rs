@@ -1,48 +1,76 @@
-//! How long each takes on a script. A time is the shortest mean of several batches.
+//! How long each takes on a script: time of the processor, not of the clock, so that others on the machine disturb little. A time is the
+//! shortest mean of several batches.
 
 use crate::plain::Plain;
 use crate::scripts::{smallest, Shape};
 use crate::yogi::to_program;
-use oracle::yogi::ir::glue;
+use oracle::yogi::ir::{glue, IRMachine};
 use oracle::yogi::parser::Program;
 use sezkibalo::raw;
 use sezkibalo::*;
 use std::hint::black_box;
-use std::time::{Duration, Instant};
 
-const BATCHES: usize = 7;
-const A_BATCH: Duration = Duration::from_millis(20);
-/// As many calls as this are never in a batch, nor as many programs kept for them.
-const MOST_CALLS: usize = 20_000;
+const BATCHES: usize = 9;
+/// Seconds of a batch, and the most calls in one.
+const A_BATCH: f64 = 0.02;
+const MOST_CALLS: usize = 50_000;
+/// A call that takes longer than this is made a few times only.
+const LONG: f64 = 0.3;
+/// Programs that are copied at once for yogi, and machines of yogi's that are kept at once.
+const AT_ONCE: usize = 64;
+
+#[repr(C)]
+struct Time {
+    seconds: i64,
+    nanoseconds: i64,
+}
+
+extern "C" {
+    fn clock_gettime(clock: i32, time: *mut Time) -> i32;
+}
+
+/// This thread's seconds on the processor, on Linux.
+fn now() -> f64 {
+    const THREAD_CPUTIME: i32 = 3;
+    let mut time = Time { seconds: 0, nanoseconds: 0 };
+    // SAFETY: the time is lent for the call, in C's layout on 64 bits.
+    let failed = unsafe { clock_gettime(THREAD_CPUTIME, &mut time) } != 0;
+    assert!(!failed, "there is no such clock");
+    time.seconds as f64 + time.nanoseconds as f64 * 1e-9
+}
 
 /// Seconds a call. `batch` makes so many calls and says how long they took.
-fn best(mut batch: impl FnMut(usize) -> Duration) -> f64 {
-    let once = batch(1).max(Duration::from_nanos(50));
-    let calls = ((A_BATCH.as_secs_f64() / once.as_secs_f64()) as usize).clamp(1, MOST_CALLS);
-    let batches = if once > Duration::from_millis(300) { 2 } else { BATCHES };
-    let means = (0..batches).map(|_| batch(calls).as_secs_f64() / calls as f64);
-    means.fold(f64::MAX, f64::min)
+fn best(mut batch: impl FnMut(usize) -> f64) -> f64 {
+    batch(1);
+    let once = batch(1).max(1e-7);
+    let calls = ((A_BATCH / once) as usize).clamp(1, MOST_CALLS);
+    let batches = if once > LONG { 2 } else { BATCHES };
+    let means = (0..batches).map(|_| batch(calls) / calls as f64);
+    means.fold(once, f64::min)
 }
 
 fn repeated<T>(mut call: impl FnMut() -> T) -> f64 {
     best(|calls| {
-        let start = Instant::now();
+        let start = now();
         for _ in 0..calls {
             black_box(call());
         }
-        start.elapsed()
+        now() - start
     })
 }
 
 /// yogi uses up the program: they are copied before, and the machines dropped behind.
-fn yogi(program: &Program, call: impl Fn(Program) -> oracle::yogi::ir::IRMachine) -> f64 {
+fn yogi(program: &Program, call: impl Fn(Program) -> IRMachine) -> f64 {
     best(|calls| {
-        let programs = vec![program.clone(); calls];
-        let mut machines = Vec::with_capacity(calls);
-        let start = Instant::now();
-        machines.extend(programs.into_iter().map(&call));
-        let time = start.elapsed();
-        drop(black_box(machines));
+        let mut time = 0.0;
+        for done in (0..calls).step_by(AT_ONCE) {
+            let programs = vec![program.clone(); AT_ONCE.min(calls - done)];
+            let mut machines = Vec::with_capacity(programs.len());
+            let start = now();
+            machines.extend(programs.into_iter().map(&call));
+            time += now() - start;
+            drop(black_box(machines));
+        }
         time
     })
 }
