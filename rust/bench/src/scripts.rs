@@ -34,7 +34,7 @@ impl Shape {
         match self {
             Shape::Assignments => assign("a", binop(local("b"), Binop::Mul, two())),
             Shape::Ites => Statement::Ite(local("a"), vec![assign("b", local("c"))], vec![]),
-            Shape::Both if i % 2 == 0 => Shape::Ites.four(i),
+            Shape::Both if i.is_multiple_of(2) => Shape::Ites.four(i),
             Shape::Both => Shape::Assignments.four(i),
             Shape::Gotos => Statement::Ite(local("a"), vec![Statement::Goto(two())], vec![]),
             Shape::Strings => assign("a", binop(Expr::String("abc".into()), Binop::Add, local("b"))),
