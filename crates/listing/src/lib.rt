@@ -1,0 +1,2 @@
+// What finlist prints, as bytes in a lent slice: a machine's rows, or a refusal.
+pub mod put;
