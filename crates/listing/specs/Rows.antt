@@ -1,0 +1,26 @@
+-- The rows of single words.
+use mathlib.Core.List.{List, _++_}
+use Prim.Native.Nat.{ℕ}
+use lib.ListN.{length}
+use Rattle.rules.specs.Bits.{isOne}
+use Rattle.rules.specs.Word.{wordIns, wordRun}
+use Rattle.rules.specs.Tables.{Counts, flag, kindOf, targetOf, successOf}
+use Rattle.rules.specs.Listing.{num, hexText, row}
+
+-- M of a machine's counts
+unfoldable pub countsRow : Counts → List ℕ
+countsRow u = row 77 (num (u .lines) ++ num (u .sections) ++ num (u .numbers) ++ num (u .strings) ++ num (u .values))
+
+-- T of a text
+unfoldable pub textRow : ℕ → List ℕ → List ℕ
+textRow i s = row 84 (num i ++ num (length s) ++ hexText s)
+
+-- I of an instruction's word
+unfoldable pub instrRow : ℕ → List ℕ
+instrRow w = let i = wordIns w in row 73 (num (i .op) ++ num (i .fst) ++ num (i .snd) ++ num (i .thd))
+
+-- S of a section's word
+unfoldable pub sectionRow : ℕ → ℕ → List ℕ
+sectionRow i w =
+    let r = wordRun w in
+    row 83 (num i ++ num (flag (isOne (r .lineStart))) ++ num (kindOf (successOf r)) ++ num (targetOf (successOf r)) ++ num (r .count))

@@ -1,0 +1,117 @@
+// Single rows, each written behind what stands in a lent slice already, and shown to be that of `rules`. Asks for just that much room.
+ghost use mathlib.Core.Path.{_≡_};
+ghost use mathlib.Core.List.{_++_};
+ghost use Rattle.rules.specs.Word.{wordRun};
+ghost use Rattle.rules.specs.Tables.{kindOf, targetOf, successOf, flag as flagS};
+ghost use Rattle.rules.specs.Listing as Listing;
+ghost use Rattle.tables.specs.Lent.{countsTold};
+ghost use Rattle.listing.specs.Wrote.{Room, Wrote};
+ghost use Rattle.listing.specs.Rows.{countsRow, textRow, instrRow, sectionRow};
+use crate::put::put;
+use crate::put::put_int;
+use crate::put::put_num;
+use crate::put::put_text;
+use tables::counts::Counts;
+use words::instr::Instruction;
+use words::section::SectionWord;
+
+const LINE_FEED: u8 = 10;
+
+// M lines sections numbers strings values
+pub fn row_m(out: &mut [u8], at: usize, c: Counts) -> usize
+    requires { ⌜ Room (now out) at (countsRow (countsTold c)) ⌝ }
+    ensures { λ r. ⌜ Wrote (now (out .entry)) (now (out .exit)) at r (countsRow (countsTold c)) ⌝ }
+{
+    let mut a = put(out, at, b'M');
+    a = put_num(out, a, c.lines);
+    a = put_num(out, a, c.sections);
+    a = put_num(out, a, c.numbers);
+    a = put_num(out, a, c.strings);
+    a = put_num(out, a, c.values);
+    put(out, a, LINE_FEED)
+}
+
+// N register thousandths
+pub fn row_n(out: &mut [u8], at: usize, i: usize, z: i64) -> usize
+    requires { ⌜ Room (now out) at (Listing.row 78 (Listing.num i ++ Listing.int z)) ⌝ }
+    ensures { λ r. ⌜ Wrote (now (out .entry)) (now (out .exit)) at r (Listing.row 78 (Listing.num i ++ Listing.int z)) ⌝ }
+{
+    let mut a = put(out, at, b'N');
+    a = put_num(out, a, i);
+    a = put_int(out, a, z);
+    put(out, a, LINE_FEED)
+}
+
+// T register length hex
+pub fn row_t(out: &mut [u8], at: usize, i: usize, s: &[u8]) -> usize
+    requires { ⌜ Room (now out) at (textRow i (now s)) ⌝ }
+    ensures { λ r. ⌜ Wrote (now (out .entry)) (now (out .exit)) at r (textRow i (now (s .entry))) ⌝ }
+{
+    let mut a = put(out, at, b'T');
+    a = put_num(out, a, i);
+    a = put_num(out, a, s.len());
+    a = put_text(out, a, s);
+    put(out, a, LINE_FEED)
+}
+
+// V name register
+pub fn row_v(out: &mut [u8], at: usize, i: usize, v: u16) -> usize
+    requires { ⌜ Room (now out) at (Listing.row 86 (Listing.num i ++ Listing.num v)) ⌝ }
+    ensures { λ r. ⌜ Wrote (now (out .entry)) (now (out .exit)) at r (Listing.row 86 (Listing.num i ++ Listing.num v)) ⌝ }
+{
+    let mut a = put(out, at, b'V');
+    a = put_num(out, a, i);
+    a = put_num(out, a, v as usize);
+    put(out, a, LINE_FEED)
+}
+
+// I opcode and three fields
+pub fn row_i(out: &mut [u8], at: usize, w: Instruction) -> usize
+    requires { ⌜ Room (now out) at (instrRow (w .0)) ⌝ }
+    ensures { λ r. ⌜ Wrote (now (out .entry)) (now (out .exit)) at r (instrRow (w .0)) ⌝ }
+{
+    let op = w.op() as usize;
+    let fst = w.fst() as usize;
+    let snd = w.snd() as usize;
+    let thd = w.thd() as usize;
+    let mut a = put(out, at, b'I');
+    a = put_num(out, a, op);
+    a = put_num(out, a, fst);
+    a = put_num(out, a, snd);
+    a = put_num(out, a, thd);
+    put(out, a, LINE_FEED)
+}
+
+fn flag(b: bool) -> usize
+    ensures { λ r. ⌜ r ≡ flagS b ⌝ }
+{
+    if b { 1 } else { 0 }
+}
+
+// S section linestart kind target count
+pub fn row_s(out: &mut [u8], at: usize, i: usize, w: SectionWord) -> usize
+    requires { ⌜ Room (now out) at (sectionRow i (w .0)) ⌝ }
+    ensures { λ r. ⌜ Wrote (now (out .entry)) (now (out .exit)) at r (sectionRow i (w .0)) ⌝ }
+{
+    let start = flag(w.line_start());
+    let kind = w.kind() as usize;
+    let target = w.target() as usize;
+    let count = w.count() as usize;
+    let mut a = put(out, at, b'S');
+    a = put_num(out, a, i);
+    a = put_num(out, a, start);
+    a = put_num(out, a, kind);
+    a = put_num(out, a, target);
+    a = put_num(out, a, count);
+    put(out, a, LINE_FEED)
+}
+
+// R and the number of a refusal
+pub fn row_r(out: &mut [u8], at: usize, n: u64) -> usize
+    requires { ⌜ Room (now out) at (Listing.refusal n) ⌝ }
+    ensures { λ r. ⌜ Wrote (now (out .entry)) (now (out .exit)) at r (Listing.refusal n) ⌝ }
+{
+    let mut a = put(out, at, b'R');
+    a = put_num(out, a, n as usize);
+    put(out, a, LINE_FEED)
+}
