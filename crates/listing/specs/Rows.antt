@@ -1,9 +1,9 @@
 -- The rows of single words.
 use mathlib.Core.List.{List, _++_}
-use Prim.Native.Nat.{ℕ}
-use lib.ListN.{length}
+use Prim.Native.Nat.{ℕ, _+_, _≤_, _<_}
+use lib.ListN.{length, getD}
 use Rattle.rules.specs.Bits.{isOne}
-use Rattle.rules.specs.Word.{wordIns, wordRun}
+use Rattle.rules.specs.Word.{wordIns, wordRun, wordSpan}
 use Rattle.rules.specs.Tables.{Counts, flag, kindOf, targetOf, successOf}
 use Rattle.rules.specs.Listing.{num, hexText, row}
 
@@ -24,3 +24,7 @@ unfoldable pub sectionRow : ℕ → ℕ → List ℕ
 sectionRow i w =
     let r = wordRun w in
     row 83 (num i ++ num (flag (isOne (r .lineStart))) ++ num (kindOf (successOf r)) ++ num (targetOf (successOf r)) ++ num (r .count))
+
+-- the first n string words lie inside the pool
+abbrev pub Inside : List ℕ → List ℕ → ℕ → Type 0
+Inside ts pool n = (i : ℕ) → i < n → wordSpan (getD ts i 0) .start + wordSpan (getD ts i 0) .size ≤ length pool

@@ -1,3 +1,4 @@
 // What finlist prints, as bytes in a lent slice: a machine's rows, or a refusal.
 pub mod put;
 pub mod row;
+pub mod rows;
