@@ -4,3 +4,4 @@ pub mod Signed
 pub mod RowParts
 pub mod TableRows
 pub mod SectionRows
+pub mod Machines
