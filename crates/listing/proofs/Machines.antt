@@ -50,6 +50,9 @@ module _ (t : Tables) (u : Counts) (h : fits t u ≡ true) where
   unfolding decode held
   decode-is = rw (h, decode)
 
+  pub one-machine : (m : Machine) → decode t u ≡ ok m → machineOf t u ≡ m
+  one-machine m d = let z : ok (machineOf t u) ≡ ok m = sym decode-is ∙ d in cc
+
   keeps : Sound t u
   keeps = sound t u h
 
@@ -87,6 +90,3 @@ module _ (t : Tables) (u : Counts) (h : fits t u ≡ true) where
       let x = room-for o l in
       let y = w .stop in
       record { text = λ m d. w .text ∙ ap listing (one-machine m d); within = omega arith }
-    where
-      one-machine : (m : Machine) → decode t u ≡ ok m → machineOf t u ≡ m
-      one-machine m d = let z : ok (machineOf t u) ≡ ok m = sym decode-is ∙ d in cc

@@ -1,0 +1,110 @@
+-- What is printed, at each way out of finishing a file in lent tables. Assumes nothing.
+use mathlib.Core.Path.{_≡_, refl, sym, ap, _∙_, subst}
+use mathlib.Core.Bool.{Bool, true, false}
+use mathlib.Core.List.{List}
+use Prim.Native.Nat.{ℕ, _≤_}
+use native.Mathlib.Omega.{arith}
+use lib.ListN.{length}
+use Rattle.rules.specs.Bits.{Res, refused, ok}
+use Rattle.rules.specs.Refusal as Refusal
+use Rattle.rules.specs.Tree.{Tree}
+use Rattle.rules.specs.Parse.{parse}
+use Rattle.rules.specs.Machine.{Machine}
+use Rattle.rules.specs.Tables.{Tables, Counts, fits, decode}
+use Rattle.rules.specs.Lowered.{Options, defaults, finished}
+use Rattle.rules.specs.Operations.{sizeOf, estimate, holds, build, finish}
+use Rattle.rules.specs.Listing.{listing, refusal}
+use Rattle.walks.specs.Calls.{Finishes, finishes}
+use Rattle.tables.specs.Lent.{countsTold, answerTold}
+use Rattle.tables.specs.declared.answer.Answer.{Answer}
+use Rattle.tables.specs.declared.answer.Answer.the-variants.{Done, Refused}
+use Rattle.tables.specs.declared.counts.Counts.{Counts as Lent}
+use Rattle.tables.proofs.Sound.{sound}
+use Rattle.tables.proofs.Change.{machineOf}
+use Rattle.listing.specs.Wrote.{Room, Wrote}
+use Rattle.listing.specs.Listed.{Lists, Listed}
+use Rattle.listing.proofs.Machines.{one-machine}
+use Rattle.printed.specs.Prints.{mostPrinted, printed, Roomy, Prints}
+use Rattle.printed.proofs.Lengths.{refusal-length, listing-length}
+
+-- the options that finlist finishes with
+abbrev pub options : Options
+options = record { locals = false; globals = true }
+
+refused-not-ok : {A : Type 0} (n : ℕ) (a : A) → refused n ≡ ok a → ⊥
+refused-not-ok n a e = let z : _≡_ {A = ℕ} 0 1 = cc in omega arith
+
+-- ---- words that hold a machine keep the rules
+
+pub fits-so : (t : Tables) (u : Counts) (m : Machine) → decode t u ≡ ok m → fits t u ≡ true
+unfolding decode
+fits-so t u m e = go (fits t u) refl
+  where
+    go : (b : Bool) → fits t u ≡ b → fits t u ≡ true
+    go true q = q
+    go false q = absurd (refused-not-ok Refusal.breaksRules m (rw (q, decode) at e))
+
+-- ---- by the file
+
+module _ (s : List ℕ) (t t′ : Tables) where
+  pub refused-prints : (n : ℕ) → (refused n, t′) ≡ finish options s t → refusal n ≡ printed s t
+  unfolding finish build printed
+  refused-prints n e = by-tree (parse s) refl
+    where
+      by-room : (x : Tree) → parse s ≡ ok x → (b : Bool) → holds t (estimate (sizeOf x)) ≡ b → refusal n ≡ printed s t
+      by-room x p false q = rw (p, printed, q) (let r : refused n ≡ refused Refusal.noRoom = ap (λ (z : Res Counts × Tables). z .0) (rw (p, build, q) at e) in let k : n ≡ Refusal.noRoom = cc in ap refusal k)
+      by-room x p true q = absurd (refused-not-ok n _ (ap (λ (z : Res Counts × Tables). z .0) (rw (p, build, q) at e)))
+
+      by-tree : (p : Res Tree) → parse s ≡ p → refusal n ≡ printed s t
+      by-tree (refused k) p = rw (p, printed) (let r : refused n ≡ refused k = ap (λ (z : Res Counts × Tables). z .0) (rw (p, build) at e) in let j : n ≡ k = cc in ap refusal j)
+      by-tree (ok x) p = by-room x p (holds t (estimate (sizeOf x))) refl
+
+  module _ (u : Counts) (e : (ok u, t′) ≡ finish options s t) where
+    pub its : Finishes options s t u
+    its = finishes options s t u (sym (ap (λ (z : Res Counts × Tables). z .0) e))
+
+    pub machine-is : decode t′ u ≡ ok (finished options (its .tree))
+    machine-is = ap (λ (z : Res Counts × Tables). decode (z .1) u) e ∙ its .machine
+
+    pub done-prints : listing (finished options (its .tree)) ≡ printed s t
+    unfolding finish build printed defaults
+    done-prints = by-room (holds t (estimate (sizeOf (its .tree)))) refl
+      where
+        by-room : (b : Bool) → holds t (estimate (sizeOf (its .tree))) ≡ b → listing (finished options (its .tree)) ≡ printed s t
+        by-room true q = rw (its .parsed, printed, q)
+        by-room false q = absurd (refused-not-ok Refusal.noRoom u (sym (ap (λ (z : Res Counts × Tables). z .0) (rw (its .parsed, build, q) at e))))
+
+-- ---- the code's answer
+
+module _ (a : Answer) (t : Tables) (z : Res Counts × Tables) (e : (answerTold a, t) ≡ z) where
+  pub told-refused : (n : ℕ) → a ≡ Refused n → (refused n, t) ≡ z
+  told-refused n h = ap (λ (x : Answer). (answerTold x, t)) (sym h) ∙ e
+
+  pub told-done : (c : Lent) → a ≡ Done c → (ok (countsTold c), t) ≡ z
+  told-done c h = ap (λ (x : Answer). (answerTold x, t)) (sym h) ∙ e
+
+-- the tables that bound a listing are as long as they were
+pub record SameLengths (t t′ : Tables) : Type 0 where
+  pub sections : length (t′ .sections) ≡ length (t .sections)
+  pub instrs : length (t′ .instrs) ≡ length (t .instrs)
+  pub numbers : length (t′ .numbers) ≡ length (t .numbers)
+  pub strings : length (t′ .strings) ≡ length (t .strings)
+  pub names : length (t′ .names) ≡ length (t .names)
+
+pub refusal-room : (o : List ℕ) (n : ℕ) → mostPrinted ≤ length o → Room o 0 (refusal n)
+refusal-room o n h = let l = refusal-length n in omega arith
+
+pub wrote-prints : {o o′ : List ℕ} {r : ℕ} {bs cs : List ℕ} → Wrote o o′ 0 r bs → Room o 0 bs → length o′ ≡ length o → bs ≡ cs → Prints o′ r cs
+wrote-prints w h l e = let k = w .stop in record { text = w .text ∙ e; within = omega arith }
+
+module _ (s : List ℕ) (t t′ : Tables) (u : Counts) (e : (ok u, t′) ≡ finish options s t) where
+  pub lists : (o : List ℕ) → Roomy t o → SameLengths t t′ → Lists t′ u o
+  lists o y l =
+      let h = fits-so t′ u _ (machine-is s t t′ u e) in
+      let c = sound t′ u h .counts in
+      let b = listing-length t′ u h in
+      let few : length (listing (machineOf t′ u)) ≤ length o = omega (arith, l .sections, l .instrs, l .numbers, l .strings, l .names, y .sections, y .instrs, y .numbers, y .strings, y .names, y .bytes, c .sections, c .instrs, c .numbers, c .strings, c .names) in
+      record { machine = h; room = λ m d. subst (λ (x : Machine). length (listing x) ≤ length o) (one-machine t′ u h m d) few }
+
+  pub listed-prints : {o : List ℕ} {r : ℕ} → Listed t′ u o r → Prints o r (printed s t)
+  listed-prints l = record { text = l .text _ (machine-is s t t′ u e) ∙ done-prints s t t′ u e; within = l .within }
