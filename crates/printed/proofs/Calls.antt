@@ -10,10 +10,16 @@ use Rattle.rules.specs.Refusal as Refusal
 use Rattle.rules.specs.Tree.{Tree}
 use Rattle.rules.specs.Parse.{parse}
 use Rattle.rules.specs.Machine.{Machine}
-use Rattle.rules.specs.Tables.{Tables, Counts, fits, decode}
-use Rattle.rules.specs.Lowered.{Options, defaults, finished}
+use Rattle.rules.specs.Tables.{Tables, Counts, fits, decode, countsOf}
+use Rattle.rules.specs.Lowered.{Options, defaults, spans, texts, assemble, lowered, finished}
 use Rattle.rules.specs.Operations.{sizeOf, estimate, holds, build, finish}
 use Rattle.rules.specs.Listing.{listing, refusal}
+use Rattle.rules.specs.Annotate.{annotate}
+use Rattle.rules.specs.Replace.{replaced}
+use Rattle.rules.specs.Clean.{cleaned}
+use Rattle.rules.specs.Combine.{combined}
+use Rattle.walks.specs.DemandProof.{strings-stay, length-spans}
+use Rattle.walks.specs.Bounds.{small}
 use Rattle.walks.specs.Calls.{Finishes, finishes}
 use Rattle.tables.specs.Lent.{countsTold, answerTold}
 use Rattle.tables.specs.declared.answer.Answer.{Answer}
@@ -97,14 +103,31 @@ refusal-room o n h = let l = refusal-length n in omega arith
 pub wrote-prints : {o o′ : List ℕ} {r : ℕ} {bs cs : List ℕ} → Wrote o o′ 0 r bs → Room o 0 bs → length o′ ≡ length o → bs ≡ cs → Prints o′ r cs
 wrote-prints w h l e = let k = w .stop in record { text = w .text ∙ e; within = omega arith }
 
+-- the texts of a tree's machine stand end to end
+module _ (x : Tree) where
+  abbrev its-texts : List (List ℕ)
+  its-texts = annotate x .1 .strings
+
+  spans-are : finished options x .strings ≡ spans 0 its-texts
+  unfolding finished combined cleaned assemble
+  spans-are = strings-stay options x
+
+  few-characters : (s : List ℕ) → parse s ≡ ok x → length (texts its-texts) ≤ 37449
+  unfolding countsOf lowered replaced assemble
+  few-characters s p = small options s x p .pool
+
 module _ (s : List ℕ) (t t′ : Tables) (u : Counts) (e : (ok u, t′) ≡ finish options s t) where
   pub lists : (o : List ℕ) → Roomy t o → SameLengths t t′ → Lists t′ u o
   lists o y l =
-      let h = fits-so t′ u _ (machine-is s t t′ u e) in
+      let x = its s t t′ u e .tree in
+      let m = machine-is s t t′ u e in
+      let h = fits-so t′ u _ m in
       let c = sound t′ u h .counts in
-      let b = listing-length t′ u h in
+      let k = few-characters x s (its s t t′ u e .parsed) in
+      let are = ap (λ (z : Machine). z .strings) (one-machine t′ u h _ m) ∙ spans-are x in
+      let b = listing-length t′ u h (its-texts x) are (length-spans options x 0 (its-texts x)) (omega arith) (omega (arith, l .names, y .names, c .names)) in
       let few : length (listing (machineOf t′ u)) ≤ length o = omega (arith, l .sections, l .instrs, l .numbers, l .strings, l .names, y .sections, y .instrs, y .numbers, y .strings, y .names, y .bytes, c .sections, c .instrs, c .numbers, c .strings, c .names) in
-      record { machine = h; room = λ m d. subst (λ (x : Machine). length (listing x) ≤ length o) (one-machine t′ u h m d) few }
+      record { machine = h; room = λ n d. subst (λ (z : Machine). length (listing z) ≤ length o) (one-machine t′ u h n d) few }
 
   pub listed-prints : {o : List ℕ} {r : ℕ} → Listed t′ u o r → Prints o r (printed s t)
   listed-prints l = record { text = l .text _ (machine-is s t t′ u e) ∙ done-prints s t t′ u e; within = l .within }

@@ -2,7 +2,7 @@
 use mathlib.Core.Path.{_≡_}
 use mathlib.Core.Bool.{Bool, true, false}
 use mathlib.Core.List.{List}
-use Prim.Native.Nat.{ℕ, _≤_}
+use Prim.Native.Nat.{ℕ, _+_, _*_, _≤_}
 use lib.ListN.{length, take}
 use Rattle.rules.specs.Bits.{Res, refused, ok}
 use Rattle.rules.specs.Constants.{finlistBytes, finlistSections, finlistInstrs, finlistNumbers, mostNodes, mostLines}
@@ -19,9 +19,9 @@ use Rattle.tree.specs.declared.Sizes.{Sizes}
 abbrev pub mostCharacters : ℕ
 mostCharacters = 37449
 
--- the bytes that a listing takes at most: those of the row M, and of each number, string, name, section and instruction that is lent for
+-- the bytes that a listing takes at most: of the row M, of each number, of each text and its characters, of each name, section and instruction
 abbrev pub mostPrinted : ℕ
-mostPrinted = 1243199
+mostPrinted = 107 + 30 * finlistNumbers + (16 * mostNodes + 2 * mostCharacters) + 29 * mostLines + 47 * finlistSections + 26 * finlistInstrs
 
 -- the rows of the tree's finished machine, or the refusal
 unfoldable pub printed : List ℕ → Tables → List ℕ

@@ -16,9 +16,6 @@ use tree::Sizes;
 // The bytes of a file at most.
 pub const MOST_BYTES: usize = 8192;
 
-// The bytes of a listing at most.
-pub const MOST_PRINTED: usize = 1243199;
-
 // What is lent: words of sections, instructions and numbers; the others as counted, which are at most these.
 const SECTIONS: usize = 2048;
 
@@ -31,6 +28,14 @@ const STRINGS: usize = 2048;
 const CHARACTERS: usize = 37449;
 
 const NAMES: usize = 255;
+
+// The bytes of a listing at most.
+pub const MOST_PRINTED: usize = 107
+    + 30 * NUMBERS
+    + (16 * STRINGS + 2 * CHARACTERS)
+    + 29 * NAMES
+    + 47 * SECTIONS
+    + 26 * INSTRUCTIONS;
 
 // The file is longer than finlist reads.
 const TOO_LONG: u64 = 10;
