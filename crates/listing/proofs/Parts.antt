@@ -9,6 +9,7 @@ use lib.ListN.{length, take, drop, set, getD, length-drop}
 use lib.Seq.{take-all, drop-cons, drop-length, getD-set-same, drop-set-lt, lt-length-set}
 use borrow.Author.Tests.{lt-ltb, le-ltb}
 use Rattle.rules.specs.Listing as Listing
+use Rattle.listing.specs.Rows.{nums}
 use Rattle.listing.proofs.Writes.{Are}
 
 -- ---- a number
@@ -109,3 +110,13 @@ pub text-first : (s : List ℕ) → Are ((32 ∷ []) ∷ tail (Listing.hexText s
 unfolding Listing.hexText
 text-first [] = record { flat-is = refl }
 text-first (x ∷ s) = record { flat-is = rw append-nil }
+
+-- ---- numbers from i on
+
+pub nums-none : (vs : List ℕ) (i : ℕ) → length vs ≤ i → i ≤ length vs → Are [] (nums (drop i vs))
+unfolding nums
+nums-none vs i a b = let e : i ≡ length vs = omega arith in record { flat-is = rw (e, drop-length) }
+
+pub nums-more : (vs : List ℕ) (i : ℕ) → i < length vs → Are (Listing.num (getD vs i 0) ∷ nums (drop (i + 1) vs) ∷ []) (nums (drop i vs))
+unfolding nums
+nums-more vs i h = record { flat-is = rw (add-one, drop-cons vs i 0 h, append-nil) }

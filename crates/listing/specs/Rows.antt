@@ -1,11 +1,16 @@
 -- The rows of single words.
-use mathlib.Core.List.{List, _++_}
+use mathlib.Core.List.{List, [], _∷_, _++_}
 use Prim.Native.Nat.{ℕ, _+_, _≤_, _<_}
 use lib.ListN.{length, getD}
 use Rattle.rules.specs.Bits.{isOne}
 use Rattle.rules.specs.Word.{wordIns, wordRun, wordSpan}
 use Rattle.rules.specs.Tables.{Counts, flag, kindOf, targetOf, successOf}
 use Rattle.rules.specs.Listing.{num, hexText, row}
+
+-- numbers, each with its blank
+unfoldable pub nums : List ℕ → List ℕ
+nums [] = []
+nums (v ∷ vs) = num v ++ nums vs
 
 -- M of a machine's counts
 unfoldable pub countsRow : Counts → List ℕ

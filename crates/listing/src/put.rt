@@ -8,6 +8,7 @@ ghost use lib.IntN.{natAbs};
 ghost use lib.ListN.{length, drop};
 ghost use Rattle.rules.specs.Listing as Listing;
 ghost use Rattle.listing.specs.Wrote.{Room, Wrote};
+ghost use Rattle.listing.specs.Rows.{nums};
 
 // The most digits of a number.
 const DIGITS: usize = 20;
@@ -75,6 +76,20 @@ pub fn put_num(out: &mut [u8], at: usize, v: usize) -> usize
 {
     let a = put(out, at, BLANK);
     put_digits(out, a, v)
+}
+
+pub fn put_nums(out: &mut [u8], at: usize, vs: &[usize]) -> usize
+    requires { ⌜ Room (now out) at (nums (now vs)) ⌝ }
+    ensures { λ r. ⌜ Wrote (now (out .entry)) (now (out .exit)) at r (nums (now (vs .entry))) ⌝ }
+{
+    let mut i: usize = 0;
+    let mut a = at;
+    while i < vs.len() {
+        let v = vs[i];
+        a = put_num(out, a, v);
+        i += 1;
+    }
+    a
 }
 
 // Below zero -1 - z is counted, so that the most negative number has a count too.

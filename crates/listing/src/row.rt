@@ -6,10 +6,11 @@ ghost use Rattle.rules.specs.Tables.{kindOf, targetOf, successOf, flag as flagS
 ghost use Rattle.rules.specs.Listing as Listing;
 ghost use Rattle.tables.specs.Lent.{countsTold};
 ghost use Rattle.listing.specs.Wrote.{Room, Wrote};
-ghost use Rattle.listing.specs.Rows.{countsRow, textRow, instrRow, sectionRow};
+ghost use Rattle.listing.specs.Rows.{nums, countsRow, textRow, instrRow, sectionRow};
 use crate::put::put;
 use crate::put::put_int;
 use crate::put::put_num;
+use crate::put::put_nums;
 use crate::put::put_text;
 use tables::counts::Counts;
 use words::instr::Instruction;
@@ -17,18 +18,23 @@ use words::section::SectionWord;
 
 const LINE_FEED: u8 = 10;
 
+// A letter and numbers.
+fn row(out: &mut [u8], at: usize, letter: u8, fields: &[usize]) -> usize
+    requires { ⌜ Room (now out) at (Listing.row letter (nums (now fields))) ⌝ }
+    ensures { λ r. ⌜ Wrote (now (out .entry)) (now (out .exit)) at r (Listing.row letter (nums (now (fields .entry)))) ⌝ }
+{
+    let mut a = put(out, at, letter);
+    a = put_nums(out, a, fields);
+    put(out, a, LINE_FEED)
+}
+
 // M lines sections numbers strings values
 pub fn row_m(out: &mut [u8], at: usize, c: Counts) -> usize
     requires { ⌜ Room (now out) at (countsRow (countsTold c)) ⌝ }
     ensures { λ r. ⌜ Wrote (now (out .entry)) (now (out .exit)) at r (countsRow (countsTold c)) ⌝ }
 {
-    let mut a = put(out, at, b'M');
-    a = put_num(out, a, c.lines);
-    a = put_num(out, a, c.sections);
-    a = put_num(out, a, c.numbers);
-    a = put_num(out, a, c.strings);
-    a = put_num(out, a, c.values);
-    put(out, a, LINE_FEED)
+    let fields = [c.lines, c.sections, c.numbers, c.strings, c.values];
+    row(out, at, b'M', &fields)
 }
 
 // N register thousandths
@@ -59,10 +65,8 @@ pub fn row_v(out: &mut [u8], at: usize, i: usize, v: u16) -> usize
     requires { ⌜ Room (now out) at (Listing.row 86 (Listing.num i ++ Listing.num v)) ⌝ }
     ensures { λ r. ⌜ Wrote (now (out .entry)) (now (out .exit)) at r (Listing.row 86 (Listing.num i ++ Listing.num v)) ⌝ }
 {
-    let mut a = put(out, at, b'V');
-    a = put_num(out, a, i);
-    a = put_num(out, a, v as usize);
-    put(out, a, LINE_FEED)
+    let fields = [i, v as usize];
+    row(out, at, b'V', &fields)
 }
 
 // I opcode and three fields
@@ -74,12 +78,8 @@ pub fn row_i(out: &mut [u8], at: usize, w: Instruction) -> usize
     let fst = w.fst() as usize;
     let snd = w.snd() as usize;
     let thd = w.thd() as usize;
-    let mut a = put(out, at, b'I');
-    a = put_num(out, a, op);
-    a = put_num(out, a, fst);
-    a = put_num(out, a, snd);
-    a = put_num(out, a, thd);
-    put(out, a, LINE_FEED)
+    let fields = [op, fst, snd, thd];
+    row(out, at, b'I', &fields)
 }
 
 fn flag(b: bool) -> usize
@@ -97,13 +97,8 @@ pub fn row_s(out: &mut [u8], at: usize, i: usize, w: SectionWord) -> usize
     let kind = w.kind() as usize;
     let target = w.target() as usize;
     let count = w.count() as usize;
-    let mut a = put(out, at, b'S');
-    a = put_num(out, a, i);
-    a = put_num(out, a, start);
-    a = put_num(out, a, kind);
-    a = put_num(out, a, target);
-    a = put_num(out, a, count);
-    put(out, a, LINE_FEED)
+    let fields = [i, start, kind, target, count];
+    row(out, at, b'S', &fields)
 }
 
 // R and the number of a refusal
@@ -111,7 +106,6 @@ pub fn row_r(out: &mut [u8], at: usize, n: u64) -> usize
     requires { ⌜ Room (now out) at (Listing.refusal n) ⌝ }
     ensures { λ r. ⌜ Wrote (now (out .entry)) (now (out .exit)) at r (Listing.refusal n) ⌝ }
 {
-    let mut a = put(out, at, b'R');
-    a = put_num(out, a, n as usize);
-    put(out, a, LINE_FEED)
+    let fields = [n as usize];
+    row(out, at, b'R', &fields)
 }

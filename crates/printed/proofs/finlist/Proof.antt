@@ -35,7 +35,9 @@ same-length-2 : tie.Need-same-length-2
 same-length-2 c = search needs
 
 returns-2 : tie.Need-returns-2
-returns-2 c = wrote-prints (c .before .before .row-r2 .ensures) (refusal-room (c .before .before .before .before .before .before .before .before .before .before .before .args .out .now) _ (c .before .before .before .before .before .before .before .before .before .before .before .pre)) (c .before .before .row-r2 .kept .0) (refused-file (c .before .before .before .before .before .before .before .before .before .before .before .args .input .now) _ (c .before .before .before .before .before .before .before .before .if1 .left) (sym (ap sizeRes (c .before .before .before .before .before .a .given .1)) ∙ c .before .before .before .before .before .before .before .size .ensures))
+returns-2 c =
+    let c11 = c .before .before .before .before .before .before .before .before .before .before .before in
+    wrote-prints (c .before .before .row-r2 .ensures) (refusal-room (c11 .args .out .now) _ (c11 .pre)) (c .before .before .row-r2 .kept .0) (refused-file (c11 .args .input .now) _ (c .before .before .before .before .before .before .before .before .if1 .left) (sym (ap sizeRes (c .before .before .before .before .before .a .given .1)) ∙ c .before .before .before .before .before .before .before .size .ensures))
 
 same-length-3 : tie.Need-same-length-3
 same-length-3 c = search needs

@@ -11,13 +11,17 @@ enum-known-a : tie.Need-enum-known-a
 enum-known-a c = search needs
 
 row-r-requires : tie.Need-row-r-requires
-row-r-requires c κs = refusal-room (c .before .before .before .before .before .before .before .before .before .before .before .before .before .before .before .before .before .before .before .before .before .before .before .before .before .before .before .before .before .args .out .now) _ (c .before .before .before .before .before .before .before .before .before .before .before .before .before .before .before .before .before .before .before .before .before .before .before .before .before .before .before .before .before .pre .bytes)
+row-r-requires c κs =
+    let c29 = c .before .before .before .before .before .before .before .before .before .before .before .before .before .before .before .before .before .before .before .before .before .before .before .before .before .before .before .before .before in
+    refusal-room (c29 .args .out .now) _ (c29 .pre .bytes)
 
 enum-known-a-2 : tie.Need-enum-known-a-2
 enum-known-a-2 c = search needs
 
 listing-requires : tie.Need-listing-requires
-listing-requires c κs = lists _ _ _ _ (told-done _ _ _ (c .before .before .before .before .before .before .before .before .before .before .before .before .before .before .before .before .before .before .before .before .before .finish .ensures) _ (c .before .before .before .before .before .before .before .before .a2 .given .1)) _ (c .before .before .before .before .before .before .before .before .before .before .before .before .before .before .before .before .before .before .before .before .before .before .before .before .before .before .before .before .before .before .before .before .before .before .before .pre) (record { sections = c .before .before .before .before .before .before .before .before .before .before .before .before .before .before .before .before .before .before .before .before .before .finish .kept .1 .1 .0; instrs = c .before .before .before .before .before .before .before .before .before .before .before .before .before .before .before .before .before .before .before .before .before .finish .kept .1 .1 .1 .0; numbers = c .before .before .before .before .before .before .before .before .before .before .before .before .before .before .before .before .before .before .before .before .before .finish .kept .1 .1 .1 .1 .0; strings = c .before .before .before .before .before .before .before .before .before .before .before .before .before .before .before .before .before .before .before .before .before .finish .kept .1 .1 .1 .1 .1 .0; names = c .before .before .before .before .before .before .before .before .before .before .before .before .before .before .before .before .before .before .before .before .before .finish .kept .1 .1 .1 .1 .1 .1 .1 .0 })
+listing-requires c κs =
+    let c21 = c .before .before .before .before .before .before .before .before .before .before .before .before .before .before .before .before .before .before .before .before .before in
+    lists _ _ _ _ (told-done _ _ _ (c21 .finish .ensures) _ (c .before .before .before .before .before .before .before .before .a2 .given .1)) _ (c .before .before .before .before .before .before .before .before .before .before .before .before .before .before .before .before .before .before .before .before .before .before .before .before .before .before .before .before .before .before .before .before .before .before .before .pre) (record { sections = c21 .finish .kept .1 .1 .0; instrs = c21 .finish .kept .1 .1 .1 .0; numbers = c21 .finish .kept .1 .1 .1 .1 .0; strings = c21 .finish .kept .1 .1 .1 .1 .1 .0; names = c21 .finish .kept .1 .1 .1 .1 .1 .1 .1 .0 })
 
 same-length : tie.Need-same-length
 same-length c = search needs
@@ -41,7 +45,9 @@ same-length-7 : tie.Need-same-length-7
 same-length-7 c = search needs
 
 returns : tie.Need-returns
-returns c = wrote-prints (c .before .before .row-r .ensures) (refusal-room (c .before .before .before .before .before .before .before .before .before .before .before .before .before .before .before .before .before .before .before .before .before .before .before .before .before .before .before .before .before .before .before .before .args .out .now) _ (c .before .before .before .before .before .before .before .before .before .before .before .before .before .before .before .before .before .before .before .before .before .before .before .before .before .before .before .before .before .before .before .before .pre .bytes)) (c .before .before .row-r .kept .0) (refused-prints _ _ _ _ (told-refused _ _ _ (c .before .before .before .before .before .before .before .before .before .before .before .before .before .before .before .before .before .before .finish .ensures) _ (c .before .before .before .before .before .a .given .1)))
+returns c =
+    let c32 = c .before .before .before .before .before .before .before .before .before .before .before .before .before .before .before .before .before .before .before .before .before .before .before .before .before .before .before .before .before .before .before .before in
+    wrote-prints (c .before .before .row-r .ensures) (refusal-room (c32 .args .out .now) _ (c32 .pre .bytes)) (c .before .before .row-r .kept .0) (refused-prints _ _ _ _ (told-refused _ _ _ (c .before .before .before .before .before .before .before .before .before .before .before .before .before .before .before .before .before .before .finish .ensures) _ (c .before .before .before .before .before .a .given .1)))
 
 same-length-8 : tie.Need-same-length-8
 same-length-8 c = search needs

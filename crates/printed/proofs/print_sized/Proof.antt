@@ -6,25 +6,39 @@ use Rattle.printed.proofs.print_sized.Statement.{statement}
 use Rattle.printed.proofs.print_sized.Tie as tie
 
 slice-relend-prefix-print-in : tie.Need-slice-relend-prefix-print-in
-slice-relend-prefix-print-in c = strings-fit (c .before .before .before .before .before .before .before .before .before .before .before .args .out .now) (c .before .before .before .before .before .before .before .before .before .before .before .args .input .now) (c .before .before .before .before .before .before .before .before .before .before .before .args .z) (c .before .before .before .before .before .before .before .before .before .before .before .args .sections .now) (c .before .before .before .before .before .before .before .before .before .before .before .args .instructions .now) (c .before .before .before .before .before .before .before .before .before .before .before .args .numbers .now) (c .before .before .before .before .before .before .before .before .before .before .before .args .strings .now) (c .before .before .before .before .before .before .before .before .before .before .before .args .pool .now) (c .before .before .before .before .before .before .before .before .before .before .before .args .names .now) (c .before .before .before .before .before .before .before .before .before .before .before .pre)
+slice-relend-prefix-print-in c =
+    let c11 = c .before .before .before .before .before .before .before .before .before .before .before in
+    strings-fit (c11 .args .out .now) (c11 .args .input .now) (c11 .args .z) (c11 .args .sections .now) (c11 .args .instructions .now) (c11 .args .numbers .now) (c11 .args .strings .now) (c11 .args .pool .now) (c11 .args .names .now) (c11 .pre)
 
 slice-aggregate-print-in : tie.Need-slice-aggregate-print-in
-slice-aggregate-print-in c = sym (strings-are (c .before .before .before .before .before .before .before .before .before .before .before .before .args .out .now) (c .before .before .before .before .before .before .before .before .before .before .before .before .args .input .now) (c .before .before .before .before .before .before .before .before .before .before .before .before .args .z) (c .before .before .before .before .before .before .before .before .before .before .before .before .args .sections .now) (c .before .before .before .before .before .before .before .before .before .before .before .before .args .instructions .now) (c .before .before .before .before .before .before .before .before .before .before .before .before .args .numbers .now) (c .before .before .before .before .before .before .before .before .before .before .before .before .args .strings .now) (c .before .before .before .before .before .before .before .before .before .before .before .before .args .pool .now) (c .before .before .before .before .before .before .before .before .before .before .before .before .args .names .now) (c .before .before .before .before .before .before .before .before .before .before .before .before .pre))
+slice-aggregate-print-in c =
+    let c12 = c .before .before .before .before .before .before .before .before .before .before .before .before in
+    sym (strings-are (c12 .args .out .now) (c12 .args .input .now) (c12 .args .z) (c12 .args .sections .now) (c12 .args .instructions .now) (c12 .args .numbers .now) (c12 .args .strings .now) (c12 .args .pool .now) (c12 .args .names .now) (c12 .pre))
 
 slice-relend-prefix-print-in-2 : tie.Need-slice-relend-prefix-print-in-2
-slice-relend-prefix-print-in-2 c = pool-fits (c .before .before .before .before .before .before .before .before .before .before .before .before .args .out .now) (c .before .before .before .before .before .before .before .before .before .before .before .before .args .input .now) (c .before .before .before .before .before .before .before .before .before .before .before .before .args .z) (c .before .before .before .before .before .before .before .before .before .before .before .before .args .sections .now) (c .before .before .before .before .before .before .before .before .before .before .before .before .args .instructions .now) (c .before .before .before .before .before .before .before .before .before .before .before .before .args .numbers .now) (c .before .before .before .before .before .before .before .before .before .before .before .before .args .strings .now) (c .before .before .before .before .before .before .before .before .before .before .before .before .args .pool .now) (c .before .before .before .before .before .before .before .before .before .before .before .before .args .names .now) (c .before .before .before .before .before .before .before .before .before .before .before .before .pre)
+slice-relend-prefix-print-in-2 c =
+    let c12 = c .before .before .before .before .before .before .before .before .before .before .before .before in
+    pool-fits (c12 .args .out .now) (c12 .args .input .now) (c12 .args .z) (c12 .args .sections .now) (c12 .args .instructions .now) (c12 .args .numbers .now) (c12 .args .strings .now) (c12 .args .pool .now) (c12 .args .names .now) (c12 .pre)
 
 slice-aggregate-print-in-2 : tie.Need-slice-aggregate-print-in-2
-slice-aggregate-print-in-2 c = sym (pool-is (c .before .before .before .before .before .before .before .before .before .before .before .before .before .args .out .now) (c .before .before .before .before .before .before .before .before .before .before .before .before .before .args .input .now) (c .before .before .before .before .before .before .before .before .before .before .before .before .before .args .z) (c .before .before .before .before .before .before .before .before .before .before .before .before .before .args .sections .now) (c .before .before .before .before .before .before .before .before .before .before .before .before .before .args .instructions .now) (c .before .before .before .before .before .before .before .before .before .before .before .before .before .args .numbers .now) (c .before .before .before .before .before .before .before .before .before .before .before .before .before .args .strings .now) (c .before .before .before .before .before .before .before .before .before .before .before .before .before .args .pool .now) (c .before .before .before .before .before .before .before .before .before .before .before .before .before .args .names .now) (c .before .before .before .before .before .before .before .before .before .before .before .before .before .pre))
+slice-aggregate-print-in-2 c =
+    let c13 = c .before .before .before .before .before .before .before .before .before .before .before .before .before in
+    sym (pool-is (c13 .args .out .now) (c13 .args .input .now) (c13 .args .z) (c13 .args .sections .now) (c13 .args .instructions .now) (c13 .args .numbers .now) (c13 .args .strings .now) (c13 .args .pool .now) (c13 .args .names .now) (c13 .pre))
 
 slice-relend-prefix-print-in-3 : tie.Need-slice-relend-prefix-print-in-3
-slice-relend-prefix-print-in-3 c = names-fit (c .before .before .before .before .before .before .before .before .before .before .before .before .before .args .out .now) (c .before .before .before .before .before .before .before .before .before .before .before .before .before .args .input .now) (c .before .before .before .before .before .before .before .before .before .before .before .before .before .args .z) (c .before .before .before .before .before .before .before .before .before .before .before .before .before .args .sections .now) (c .before .before .before .before .before .before .before .before .before .before .before .before .before .args .instructions .now) (c .before .before .before .before .before .before .before .before .before .before .before .before .before .args .numbers .now) (c .before .before .before .before .before .before .before .before .before .before .before .before .before .args .strings .now) (c .before .before .before .before .before .before .before .before .before .before .before .before .before .args .pool .now) (c .before .before .before .before .before .before .before .before .before .before .before .before .before .args .names .now) (c .before .before .before .before .before .before .before .before .before .before .before .before .before .pre)
+slice-relend-prefix-print-in-3 c =
+    let c13 = c .before .before .before .before .before .before .before .before .before .before .before .before .before in
+    names-fit (c13 .args .out .now) (c13 .args .input .now) (c13 .args .z) (c13 .args .sections .now) (c13 .args .instructions .now) (c13 .args .numbers .now) (c13 .args .strings .now) (c13 .args .pool .now) (c13 .args .names .now) (c13 .pre)
 
 slice-aggregate-print-in-3 : tie.Need-slice-aggregate-print-in-3
-slice-aggregate-print-in-3 c = sym (names-are (c .before .before .before .before .before .before .before .before .before .before .before .before .before .before .args .out .now) (c .before .before .before .before .before .before .before .before .before .before .before .before .before .before .args .input .now) (c .before .before .before .before .before .before .before .before .before .before .before .before .before .before .args .z) (c .before .before .before .before .before .before .before .before .before .before .before .before .before .before .args .sections .now) (c .before .before .before .before .before .before .before .before .before .before .before .before .before .before .args .instructions .now) (c .before .before .before .before .before .before .before .before .before .before .before .before .before .before .args .numbers .now) (c .before .before .before .before .before .before .before .before .before .before .before .before .before .before .args .strings .now) (c .before .before .before .before .before .before .before .before .before .before .before .before .before .before .args .pool .now) (c .before .before .before .before .before .before .before .before .before .before .before .before .before .before .args .names .now) (c .before .before .before .before .before .before .before .before .before .before .before .before .before .before .pre))
+slice-aggregate-print-in-3 c =
+    let c14 = c .before .before .before .before .before .before .before .before .before .before .before .before .before .before in
+    sym (names-are (c14 .args .out .now) (c14 .args .input .now) (c14 .args .z) (c14 .args .sections .now) (c14 .args .instructions .now) (c14 .args .numbers .now) (c14 .args .strings .now) (c14 .args .pool .now) (c14 .args .names .now) (c14 .pre))
 
 print-in-requires : tie.Need-print-in-requires
-print-in-requires c κs = lent-room (c .before .before .before .before .before .before .before .before .before .before .before .before .before .before .args .out .now) (c .before .before .before .before .before .before .before .before .before .before .before .before .before .before .args .input .now) (c .before .before .before .before .before .before .before .before .before .before .before .before .before .before .args .z) (c .before .before .before .before .before .before .before .before .before .before .before .before .before .before .args .sections .now) (c .before .before .before .before .before .before .before .before .before .before .before .before .before .before .args .instructions .now) (c .before .before .before .before .before .before .before .before .before .before .before .before .before .before .args .numbers .now) (c .before .before .before .before .before .before .before .before .before .before .before .before .before .before .args .strings .now) (c .before .before .before .before .before .before .before .before .before .before .before .before .before .before .args .pool .now) (c .before .before .before .before .before .before .before .before .before .before .before .before .before .before .args .names .now) (c .before .before .before .before .before .before .before .before .before .before .before .before .before .before .pre)
+print-in-requires c κs =
+    let c14 = c .before .before .before .before .before .before .before .before .before .before .before .before .before .before in
+    lent-room (c14 .args .out .now) (c14 .args .input .now) (c14 .args .z) (c14 .args .sections .now) (c14 .args .instructions .now) (c14 .args .numbers .now) (c14 .args .strings .now) (c14 .args .pool .now) (c14 .args .names .now) (c14 .pre)
 
 same-length : tie.Need-same-length
 same-length c = search needs
@@ -48,7 +62,9 @@ same-length-7 : tie.Need-same-length-7
 same-length-7 c = search needs
 
 returns : tie.Need-returns
-returns c = let p = c .before .before .before .before .before .before .before .before .before .before .before .before .before .print-in .ensures in record { text = p .text ∙ lent-prints (c .before .before .before .before .before .before .before .before .before .before .before .before .before .before .before .before .before .before .before .before .before .before .before .before .before .before .before .before .args .out .now) (c .before .before .before .before .before .before .before .before .before .before .before .before .before .before .before .before .before .before .before .before .before .before .before .before .before .before .before .before .args .input .now) (c .before .before .before .before .before .before .before .before .before .before .before .before .before .before .before .before .before .before .before .before .before .before .before .before .before .before .before .before .args .z) (c .before .before .before .before .before .before .before .before .before .before .before .before .before .before .before .before .before .before .before .before .before .before .before .before .before .before .before .before .args .sections .now) (c .before .before .before .before .before .before .before .before .before .before .before .before .before .before .before .before .before .before .before .before .before .before .before .before .before .before .before .before .args .instructions .now) (c .before .before .before .before .before .before .before .before .before .before .before .before .before .before .before .before .before .before .before .before .before .before .before .before .before .before .before .before .args .numbers .now) (c .before .before .before .before .before .before .before .before .before .before .before .before .before .before .before .before .before .before .before .before .before .before .before .before .before .before .before .before .args .strings .now) (c .before .before .before .before .before .before .before .before .before .before .before .before .before .before .before .before .before .before .before .before .before .before .before .before .before .before .before .before .args .pool .now) (c .before .before .before .before .before .before .before .before .before .before .before .before .before .before .before .before .before .before .before .before .before .before .before .before .before .before .before .before .args .names .now) (c .before .before .before .before .before .before .before .before .before .before .before .before .before .before .before .before .before .before .before .before .before .before .before .before .before .before .before .before .pre); within = p .within }
+returns c =
+    let c28 = c .before .before .before .before .before .before .before .before .before .before .before .before .before .before .before .before .before .before .before .before .before .before .before .before .before .before .before .before in
+    let p = c .before .before .before .before .before .before .before .before .before .before .before .before .before .print-in .ensures in record { text = p .text ∙ lent-prints (c28 .args .out .now) (c28 .args .input .now) (c28 .args .z) (c28 .args .sections .now) (c28 .args .instructions .now) (c28 .args .numbers .now) (c28 .args .strings .now) (c28 .args .pool .now) (c28 .args .names .now) (c28 .pre); within = p .within }
 
 pub print-sized-spec : {M : Type 1} → statement M
 print-sized-spec =

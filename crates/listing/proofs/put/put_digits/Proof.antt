@@ -1,6 +1,6 @@
+-- `put_digits` meets its contract. Assumes nothing.
 use Rattle.listing.proofs.Writes.{as-is}
 use Rattle.listing.proofs.Parts.{digits-part}
--- `put_digits` meets its contract. Assumes nothing.
 use borrow.Author.Needs.{needs}
 use Rattle.listing.proofs.put.put_digits.Statement.{statement}
 use Rattle.listing.proofs.put.put_digits.Tie as tie
@@ -27,7 +27,9 @@ same-length : tie.Need-same-length
 same-length c = search needs
 
 returns : tie.Need-returns
-returns c = as-is (c .before .before .put-bytes .ensures) (digits-part (c .before .before .before .before .before .before .before .digits .last .0) (c .before .before .before .before .before .before .before .digits .result) (c .before .before .before .before .before .before .before .before .before .before .args .v) (c .before .before .before .before .before .before .before .digits .kept .0) (c .before .before .before .before .before .before .before .digits .ensures .1))
+returns c =
+    let c7 = c .before .before .before .before .before .before .before in
+    as-is (c .before .before .put-bytes .ensures) (digits-part (c7 .digits .last .0) (c7 .digits .result) (c .before .before .before .before .before .before .before .before .before .before .args .v) (c7 .digits .kept .0) (c7 .digits .ensures .1))
 
 pub put-digits-spec : {M : Type 1} → statement M
 put-digits-spec =

@@ -2,7 +2,6 @@
 use Rattle.listing.proofs.Parts.{hex-more, hex-none}
 use Rattle.listing.proofs.Writes.{Left, begin, part, write, room, done, only}
 use mathlib.Core.List.{[], _∷_}
--- `put_hex` meets its contract. Assumes nothing.
 use Rattle.rules.specs.Listing as Listing
 use mathlib.Core.Path.{refl}
 use native.Mathlib.Omega.{arith}
@@ -34,7 +33,10 @@ hex-digit-requires-2 : tie.Need-hex-digit-requires-2 Inv-loop μ-loop
 hex-digit-requires-2 c κs = search needs
 
 put-requires-2 : tie.Need-put-requires-2 Inv-loop μ-loop
-put-requires-2 c κs = let l = c .before .before .before .before .before .before .before .before .before .loop in let s = c .before .before .before .before .before .before .before .before .before .before .before .before .args .s .now in room (write (part (hex-more s (l .i) (c .before .before .before .before .before .before .before .before .loop-test .taken) (c .before .before .before .before .before .hex-digit .ensures) (c .hex-digit2 .ensures)) (l .inv .1)) (c .before .before .before .before .put .ensures) (c .before .before .before .before .put .kept .0)) (c .before .before .before .before .before .before .before .before .before .before .before .before .pre)
+put-requires-2 c κs =
+    let c4 = c .before .before .before .before in
+    let c12 = c4 .before .before .before .before .before .before .before .before in
+    let l = c .before .before .before .before .before .before .before .before .before .loop in let s = c12 .args .s .now in room (write (part (hex-more s (l .i) (c .before .before .before .before .before .before .before .before .loop-test .taken) (c .before .before .before .before .before .hex-digit .ensures) (c .hex-digit2 .ensures)) (l .inv .1)) (c4 .put .ensures) (c4 .put .kept .0)) (c12 .pre)
 
 add-i : tie.Need-add-i Inv-loop μ-loop
 add-i c = search needs
@@ -43,7 +45,9 @@ loop-less : tie.Need-loop-less Inv-loop μ-loop
 loop-less c = let h = c .before .before .before .before .before .before .before .before .before .before .before .loop-test .taken in omega arith
 
 loop-again : tie.Need-loop-again Inv-loop μ-loop
-loop-again c = let l = c .before .before .before .before .before .before .before .before .before .before .before .before .loop in let s = c .before .before .before .before .before .before .before .before .before .before .before .before .before .before .before .args .s .now in let h = c .before .before .before .before .before .before .before .before .before .before .before .loop-test .taken in (search needs, write (write (part (hex-more s (l .i) h (c .before .before .before .before .before .before .before .before .hex-digit .ensures) (c .before .before .before .hex-digit2 .ensures)) (l .inv .1)) (c .before .before .before .before .before .before .before .put .ensures) (c .before .before .before .before .before .before .before .put .kept .0)) (c .before .before .put2 .ensures) (c .before .before .put2 .kept .0))
+loop-again c =
+    let c7 = c .before .before .before .before .before .before .before in
+    let l = c .before .before .before .before .before .before .before .before .before .before .before .before .loop in let s = c .before .before .before .before .before .before .before .before .before .before .before .before .before .before .before .args .s .now in let h = c .before .before .before .before .before .before .before .before .before .before .before .loop-test .taken in (search needs, write (write (part (hex-more s (l .i) h (c .before .before .before .before .before .before .before .before .hex-digit .ensures) (c .before .before .before .hex-digit2 .ensures)) (l .inv .1)) (c7 .put .ensures) (c7 .put .kept .0)) (c .before .before .put2 .ensures) (c .before .before .put2 .kept .0))
 
 same-length : tie.Need-same-length Inv-loop μ-loop
 same-length c = c .before .loop .inv .1 .same

@@ -1,7 +1,6 @@
 -- `put_num` meets its contract. Assumes nothing.
 use Rattle.listing.proofs.Parts.{num-is}
 use Rattle.listing.proofs.Writes.{begin, write, room, done}
--- `put_num` meets its contract. Assumes nothing.
 use Rattle.rules.specs.Listing as Listing
 use borrow.Author.Needs.{needs}
 use Rattle.listing.proofs.put.put_num.Statement.{statement}
@@ -17,7 +16,10 @@ same-length : tie.Need-same-length
 same-length c = search needs
 
 returns : tie.Need-returns
-returns c = done (write (write (begin (c .before .before .before .before .before .before .before .before .before .args .out .now) (c .before .before .before .before .before .before .before .before .before .args .at) (num-is (c .before .before .before .before .before .before .before .before .before .args .v))) (c .before .before .before .before .before .before .put .ensures) (c .before .before .before .before .before .before .put .kept .0)) (c .before .before .put-digits .ensures) (c .before .before .put-digits .kept .0))
+returns c =
+    let c6 = c .before .before .before .before .before .before in
+    let c9 = c6 .before .before .before in
+    done (write (write (begin (c9 .args .out .now) (c9 .args .at) (num-is (c9 .args .v))) (c6 .put .ensures) (c6 .put .kept .0)) (c .before .before .put-digits .ensures) (c .before .before .put-digits .kept .0))
 
 pub put-num-spec : {M : Type 1} → statement M
 put-num-spec = tie.close (tie.spec put-requires put-digits-requires same-length returns)

@@ -1,6 +1,6 @@
 -- `row_s` meets its contract. Assumes nothing.
-use Rattle.listing.proofs.RowParts.{section-parts}
-use Rattle.listing.proofs.Writes.{begin, write, room, done}
+use Rattle.listing.proofs.RowParts.{section-row}
+use Rattle.listing.proofs.Writes.{as-is}
 use borrow.Author.Needs.{needs}
 use Rattle.listing.proofs.row.row_s.Statement.{statement}
 use Rattle.listing.proofs.row.row_s.Tie as tie
@@ -26,32 +26,21 @@ count-requires c κs = search needs
 cast-count : tie.Need-cast-count
 cast-count c = search needs
 
-put-requires : tie.Need-put-requires
-put-requires c κs = room (begin (c .before .before .before .before .before .before .before .args .out .now) (c .before .before .before .before .before .before .before .args .at) (section-parts (c .before .before .before .before .before .before .before .args .i) (c .before .before .before .before .before .before .before .args .w .0) (c .before .before .before .before .flag .ensures) (c .before .before .before .before .before .line-start .ensures) (c .before .before .before .kind .ensures) (c .before .before .target .ensures) (c .before .count .ensures))) (c .before .before .before .before .before .before .before .pre)
+slice-aggregate-row : tie.Need-slice-aggregate-row
+slice-aggregate-row c = search needs
 
-put-num-requires : tie.Need-put-num-requires
-put-num-requires c κs = room (write (begin (c .before .before .before .before .before .before .before .before .before .before .before .args .out .now) (c .before .before .before .before .before .before .before .before .before .before .before .args .at) (section-parts (c .before .before .before .before .before .before .before .before .before .before .before .args .i) (c .before .before .before .before .before .before .before .before .before .before .before .args .w .0) (c .before .before .before .before .before .before .before .before .flag .ensures) (c .before .before .before .before .before .before .before .before .before .line-start .ensures) (c .before .before .before .before .before .before .before .kind .ensures) (c .before .before .before .before .before .before .target .ensures) (c .before .before .before .before .before .count .ensures))) (c .before .before .before .put .ensures) (c .before .before .before .put .kept .0)) (c .before .before .before .before .before .before .before .before .before .before .before .pre)
-
-put-num-requires-2 : tie.Need-put-num-requires-2
-put-num-requires-2 c κs = room (write (write (begin (c .before .before .before .before .before .before .before .before .before .before .before .before .before .before .before .args .out .now) (c .before .before .before .before .before .before .before .before .before .before .before .before .before .before .before .args .at) (section-parts (c .before .before .before .before .before .before .before .before .before .before .before .before .before .before .before .args .i) (c .before .before .before .before .before .before .before .before .before .before .before .before .before .before .before .args .w .0) (c .before .before .before .before .before .before .before .before .before .before .before .before .flag .ensures) (c .before .before .before .before .before .before .before .before .before .before .before .before .before .line-start .ensures) (c .before .before .before .before .before .before .before .before .before .before .before .kind .ensures) (c .before .before .before .before .before .before .before .before .before .before .target .ensures) (c .before .before .before .before .before .before .before .before .before .count .ensures))) (c .before .before .before .before .before .before .before .put .ensures) (c .before .before .before .before .before .before .before .put .kept .0)) (c .before .before .before .put-num .ensures) (c .before .before .before .put-num .kept .0)) (c .before .before .before .before .before .before .before .before .before .before .before .before .before .before .before .pre)
-
-put-num-requires-3 : tie.Need-put-num-requires-3
-put-num-requires-3 c κs = room (write (write (write (begin (c .before .before .before .before .before .before .before .before .before .before .before .before .before .before .before .before .before .before .before .args .out .now) (c .before .before .before .before .before .before .before .before .before .before .before .before .before .before .before .before .before .before .before .args .at) (section-parts (c .before .before .before .before .before .before .before .before .before .before .before .before .before .before .before .before .before .before .before .args .i) (c .before .before .before .before .before .before .before .before .before .before .before .before .before .before .before .before .before .before .before .args .w .0) (c .before .before .before .before .before .before .before .before .before .before .before .before .before .before .before .before .flag .ensures) (c .before .before .before .before .before .before .before .before .before .before .before .before .before .before .before .before .before .line-start .ensures) (c .before .before .before .before .before .before .before .before .before .before .before .before .before .before .before .kind .ensures) (c .before .before .before .before .before .before .before .before .before .before .before .before .before .before .target .ensures) (c .before .before .before .before .before .before .before .before .before .before .before .before .before .count .ensures))) (c .before .before .before .before .before .before .before .before .before .before .before .put .ensures) (c .before .before .before .before .before .before .before .before .before .before .before .put .kept .0)) (c .before .before .before .before .before .before .before .put-num .ensures) (c .before .before .before .before .before .before .before .put-num .kept .0)) (c .before .before .before .put-num2 .ensures) (c .before .before .before .put-num2 .kept .0)) (c .before .before .before .before .before .before .before .before .before .before .before .before .before .before .before .before .before .before .before .pre)
-
-put-num-requires-4 : tie.Need-put-num-requires-4
-put-num-requires-4 c κs = room (write (write (write (write (begin (c .before .before .before .before .before .before .before .before .before .before .before .before .before .before .before .before .before .before .before .before .before .before .before .args .out .now) (c .before .before .before .before .before .before .before .before .before .before .before .before .before .before .before .before .before .before .before .before .before .before .before .args .at) (section-parts (c .before .before .before .before .before .before .before .before .before .before .before .before .before .before .before .before .before .before .before .before .before .before .before .args .i) (c .before .before .before .before .before .before .before .before .before .before .before .before .before .before .before .before .before .before .before .before .before .before .before .args .w .0) (c .before .before .before .before .before .before .before .before .before .before .before .before .before .before .before .before .before .before .before .before .flag .ensures) (c .before .before .before .before .before .before .before .before .before .before .before .before .before .before .before .before .before .before .before .before .before .line-start .ensures) (c .before .before .before .before .before .before .before .before .before .before .before .before .before .before .before .before .before .before .before .kind .ensures) (c .before .before .before .before .before .before .before .before .before .before .before .before .before .before .before .before .before .before .target .ensures) (c .before .before .before .before .before .before .before .before .before .before .before .before .before .before .before .before .before .count .ensures))) (c .before .before .before .before .before .before .before .before .before .before .before .before .before .before .before .put .ensures) (c .before .before .before .before .before .before .before .before .before .before .before .before .before .before .before .put .kept .0)) (c .before .before .before .before .before .before .before .before .before .before .before .put-num .ensures) (c .before .before .before .before .before .before .before .before .before .before .before .put-num .kept .0)) (c .before .before .before .before .before .before .before .put-num2 .ensures) (c .before .before .before .before .before .before .before .put-num2 .kept .0)) (c .before .before .before .put-num3 .ensures) (c .before .before .before .put-num3 .kept .0)) (c .before .before .before .before .before .before .before .before .before .before .before .before .before .before .before .before .before .before .before .before .before .before .before .pre)
-
-put-num-requires-5 : tie.Need-put-num-requires-5
-put-num-requires-5 c κs = room (write (write (write (write (write (begin (c .before .before .before .before .before .before .before .before .before .before .before .before .before .before .before .before .before .before .before .before .before .before .before .before .before .before .before .args .out .now) (c .before .before .before .before .before .before .before .before .before .before .before .before .before .before .before .before .before .before .before .before .before .before .before .before .before .before .before .args .at) (section-parts (c .before .before .before .before .before .before .before .before .before .before .before .before .before .before .before .before .before .before .before .before .before .before .before .before .before .before .before .args .i) (c .before .before .before .before .before .before .before .before .before .before .before .before .before .before .before .before .before .before .before .before .before .before .before .before .before .before .before .args .w .0) (c .before .before .before .before .before .before .before .before .before .before .before .before .before .before .before .before .before .before .before .before .before .before .before .before .flag .ensures) (c .before .before .before .before .before .before .before .before .before .before .before .before .before .before .before .before .before .before .before .before .before .before .before .before .before .line-start .ensures) (c .before .before .before .before .before .before .before .before .before .before .before .before .before .before .before .before .before .before .before .before .before .before .before .kind .ensures) (c .before .before .before .before .before .before .before .before .before .before .before .before .before .before .before .before .before .before .before .before .before .before .target .ensures) (c .before .before .before .before .before .before .before .before .before .before .before .before .before .before .before .before .before .before .before .before .before .count .ensures))) (c .before .before .before .before .before .before .before .before .before .before .before .before .before .before .before .before .before .before .before .put .ensures) (c .before .before .before .before .before .before .before .before .before .before .before .before .before .before .before .before .before .before .before .put .kept .0)) (c .before .before .before .before .before .before .before .before .before .before .before .before .before .before .before .put-num .ensures) (c .before .before .before .before .before .before .before .before .before .before .before .before .before .before .before .put-num .kept .0)) (c .before .before .before .before .before .before .before .before .before .before .before .put-num2 .ensures) (c .before .before .before .before .before .before .before .before .before .before .before .put-num2 .kept .0)) (c .before .before .before .before .before .before .before .put-num3 .ensures) (c .before .before .before .before .before .before .before .put-num3 .kept .0)) (c .before .before .before .put-num4 .ensures) (c .before .before .before .put-num4 .kept .0)) (c .before .before .before .before .before .before .before .before .before .before .before .before .before .before .before .before .before .before .before .before .before .before .before .before .before .before .before .pre)
-
-put-requires-2 : tie.Need-put-requires-2
-put-requires-2 c κs = room (write (write (write (write (write (write (begin (c .before .before .before .before .before .before .before .before .before .before .before .before .before .before .before .before .before .before .before .before .before .before .before .before .before .before .before .before .before .before .before .args .out .now) (c .before .before .before .before .before .before .before .before .before .before .before .before .before .before .before .before .before .before .before .before .before .before .before .before .before .before .before .before .before .before .before .args .at) (section-parts (c .before .before .before .before .before .before .before .before .before .before .before .before .before .before .before .before .before .before .before .before .before .before .before .before .before .before .before .before .before .before .before .args .i) (c .before .before .before .before .before .before .before .before .before .before .before .before .before .before .before .before .before .before .before .before .before .before .before .before .before .before .before .before .before .before .before .args .w .0) (c .before .before .before .before .before .before .before .before .before .before .before .before .before .before .before .before .before .before .before .before .before .before .before .before .before .before .before .before .flag .ensures) (c .before .before .before .before .before .before .before .before .before .before .before .before .before .before .before .before .before .before .before .before .before .before .before .before .before .before .before .before .before .line-start .ensures) (c .before .before .before .before .before .before .before .before .before .before .before .before .before .before .before .before .before .before .before .before .before .before .before .before .before .before .before .kind .ensures) (c .before .before .before .before .before .before .before .before .before .before .before .before .before .before .before .before .before .before .before .before .before .before .before .before .before .before .target .ensures) (c .before .before .before .before .before .before .before .before .before .before .before .before .before .before .before .before .before .before .before .before .before .before .before .before .before .count .ensures))) (c .before .before .before .before .before .before .before .before .before .before .before .before .before .before .before .before .before .before .before .before .before .before .before .put .ensures) (c .before .before .before .before .before .before .before .before .before .before .before .before .before .before .before .before .before .before .before .before .before .before .before .put .kept .0)) (c .before .before .before .before .before .before .before .before .before .before .before .before .before .before .before .before .before .before .before .put-num .ensures) (c .before .before .before .before .before .before .before .before .before .before .before .before .before .before .before .before .before .before .before .put-num .kept .0)) (c .before .before .before .before .before .before .before .before .before .before .before .before .before .before .before .put-num2 .ensures) (c .before .before .before .before .before .before .before .before .before .before .before .before .before .before .before .put-num2 .kept .0)) (c .before .before .before .before .before .before .before .before .before .before .before .put-num3 .ensures) (c .before .before .before .before .before .before .before .before .before .before .before .put-num3 .kept .0)) (c .before .before .before .before .before .before .before .put-num4 .ensures) (c .before .before .before .before .before .before .before .put-num4 .kept .0)) (c .before .before .before .put-num5 .ensures) (c .before .before .before .put-num5 .kept .0)) (c .before .before .before .before .before .before .before .before .before .before .before .before .before .before .before .before .before .before .before .before .before .before .before .before .before .before .before .before .before .before .before .pre)
+row-requires : tie.Need-row-requires
+row-requires c κs =
+    let c8 = c .before .before .before .before .before .before .before .before in
+    rw (section-row (c8 .args .i) (c8 .args .w .0) (c .before .before .before .before .before .flag .ensures) (c .before .before .before .before .before .before .line-start .ensures) (c .before .before .before .before .kind .ensures) (c .before .before .before .target .ensures) (c .before .before .count .ensures)) (c8 .pre)
 
 same-length : tie.Need-same-length
 same-length c = search needs
 
 returns : tie.Need-returns
-returns c = done (write (write (write (write (write (write (write (begin (c .before .before .before .before .before .before .before .before .before .before .before .before .before .before .before .before .before .before .before .before .before .before .before .before .before .before .before .before .before .before .before .before .before .before .args .out .now) (c .before .before .before .before .before .before .before .before .before .before .before .before .before .before .before .before .before .before .before .before .before .before .before .before .before .before .before .before .before .before .before .before .before .before .args .at) (section-parts (c .before .before .before .before .before .before .before .before .before .before .before .before .before .before .before .before .before .before .before .before .before .before .before .before .before .before .before .before .before .before .before .before .before .before .args .i) (c .before .before .before .before .before .before .before .before .before .before .before .before .before .before .before .before .before .before .before .before .before .before .before .before .before .before .before .before .before .before .before .before .before .before .args .w .0) (c .before .before .before .before .before .before .before .before .before .before .before .before .before .before .before .before .before .before .before .before .before .before .before .before .before .before .before .before .before .before .before .flag .ensures) (c .before .before .before .before .before .before .before .before .before .before .before .before .before .before .before .before .before .before .before .before .before .before .before .before .before .before .before .before .before .before .before .before .line-start .ensures) (c .before .before .before .before .before .before .before .before .before .before .before .before .before .before .before .before .before .before .before .before .before .before .before .before .before .before .before .before .before .before .kind .ensures) (c .before .before .before .before .before .before .before .before .before .before .before .before .before .before .before .before .before .before .before .before .before .before .before .before .before .before .before .before .before .target .ensures) (c .before .before .before .before .before .before .before .before .before .before .before .before .before .before .before .before .before .before .before .before .before .before .before .before .before .before .before .before .count .ensures))) (c .before .before .before .before .before .before .before .before .before .before .before .before .before .before .before .before .before .before .before .before .before .before .before .before .before .before .put .ensures) (c .before .before .before .before .before .before .before .before .before .before .before .before .before .before .before .before .before .before .before .before .before .before .before .before .before .before .put .kept .0)) (c .before .before .before .before .before .before .before .before .before .before .before .before .before .before .before .before .before .before .before .before .before .before .put-num .ensures) (c .before .before .before .before .before .before .before .before .before .before .before .before .before .before .before .before .before .before .before .before .before .before .put-num .kept .0)) (c .before .before .before .before .before .before .before .before .before .before .before .before .before .before .before .before .before .before .put-num2 .ensures) (c .before .before .before .before .before .before .before .before .before .before .before .before .before .before .before .before .before .before .put-num2 .kept .0)) (c .before .before .before .before .before .before .before .before .before .before .before .before .before .before .put-num3 .ensures) (c .before .before .before .before .before .before .before .before .before .before .before .before .before .before .put-num3 .kept .0)) (c .before .before .before .before .before .before .before .before .before .before .put-num4 .ensures) (c .before .before .before .before .before .before .before .before .before .before .put-num4 .kept .0)) (c .before .before .before .before .before .before .put-num5 .ensures) (c .before .before .before .before .before .before .put-num5 .kept .0)) (c .before .before .put2 .ensures) (c .before .before .put2 .kept .0))
+returns c =
+    let c11 = c .before .before .before .before .before .before .before .before .before .before .before in
+    as-is (c .before .before .row .ensures) (section-row (c11 .args .i) (c11 .args .w .0) (c .before .before .before .before .before .before .before .before .flag .ensures) (c .before .before .before .before .before .before .before .before .before .line-start .ensures) (c .before .before .before .before .before .before .before .kind .ensures) (c .before .before .before .before .before .before .target .ensures) (c .before .before .before .before .before .count .ensures))
 
 pub row-s-spec : {M : Type 1} → statement M
 row-s-spec =
@@ -64,12 +53,7 @@ row-s-spec =
     cast-target
     count-requires
     cast-count
-    put-requires
-    put-num-requires
-    put-num-requires-2
-    put-num-requires-3
-    put-num-requires-4
-    put-num-requires-5
-    put-requires-2
+    slice-aggregate-row
+    row-requires
     same-length
     returns)

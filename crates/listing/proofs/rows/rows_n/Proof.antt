@@ -27,7 +27,9 @@ shared-slice-copy-out-z : tie.Need-shared-slice-copy-out-z Inv-loop μ-loop
 shared-slice-copy-out-z c = let h = c .loop-test .taken in let p = c .before .before .before .pre in omega arith
 
 row-n-requires : tie.Need-row-n-requires Inv-loop μ-loop
-row-n-requires c κs = let l = c .before .before .before .loop in room (part (numbers-more (l .i) (c .before .before .before .before .before .args .n) (c .before .before .before .before .before .args .numbers .now) (c .before .before .loop-test .taken) (c .before .before .before .before .before .pre .0) (record { sfits = c .before .z .given })) (l .inv .1)) (c .before .before .before .before .before .pre .1)
+row-n-requires c κs =
+    let c5 = c .before .before .before .before .before in
+    let l = c .before .before .before .loop in room (part (numbers-more (l .i) (c5 .args .n) (c5 .args .numbers .now) (c .before .before .loop-test .taken) (c5 .pre .0) (record { sfits = c .before .z .given })) (l .inv .1)) (c5 .pre .1)
 
 add-i : tie.Need-add-i Inv-loop μ-loop
 add-i c = search needs
@@ -36,7 +38,9 @@ loop-less : tie.Need-loop-less Inv-loop μ-loop
 loop-less c = let h = c .before .before .before .before .before .loop-test .taken in omega arith
 
 loop-again : tie.Need-loop-again Inv-loop μ-loop
-loop-again c = let l = c .before .before .before .before .before .before .loop in let h = c .before .before .before .before .before .loop-test .taken in (search needs, write (part (numbers-more (l .i) (c .before .before .before .before .before .before .before .before .args .n) (c .before .before .before .before .before .before .before .before .args .numbers .now) h (c .before .before .before .before .before .before .before .before .pre .0) (record { sfits = c .before .before .before .before .z .given })) (l .inv .1)) (c .before .before .row-n .ensures) (c .before .before .row-n .kept .0))
+loop-again c =
+    let c8 = c .before .before .before .before .before .before .before .before in
+    let l = c .before .before .before .before .before .before .loop in let h = c .before .before .before .before .before .loop-test .taken in (search needs, write (part (numbers-more (l .i) (c8 .args .n) (c8 .args .numbers .now) h (c8 .pre .0) (record { sfits = c .before .before .before .before .z .given })) (l .inv .1)) (c .before .before .row-n .ensures) (c .before .before .row-n .kept .0))
 
 same-length : tie.Need-same-length Inv-loop μ-loop
 same-length c = c .before .loop .inv .1 .same

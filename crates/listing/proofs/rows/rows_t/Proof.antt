@@ -52,7 +52,9 @@ part-row-t-end : tie.Need-part-row-t-end Inv-loop μ-loop
 part-row-t-end c = let l = c .before .before .before .before .before .loop in let h = c .before .before .before .before .loop-test .taken in let i = c .before .before .before .before .before .before .before .before .before .pre .1 .0 (l .i) h in let s = c .before .before .start .ensures in let n = c .before .length .ensures in omega arith
 
 row-t-requires : tie.Need-row-t-requires Inv-loop μ-loop
-row-t-requires c κs = let l = c .before .before .before .before .before .before .loop in let h = c .before .before .before .before .before .loop-test .taken in let i = c .before .before .before .before .before .before .before .before .before .before .pre .1 .0 (l .i) h in let s = c .before .before .before .start .ensures in let n = c .before .before .length .ensures in room (part (texts-more (c .before .before .before .before .before .before .before .before .before .before .args .pool .now) (l .i) (c .before .before .before .before .before .before .before .before .before .before .args .n) (c .before .before .before .before .before .before .before .before .before .before .args .strings .now) h (c .before .before .before .before .before .before .before .before .before .before .pre .0) _ _ s n (omega arith)) (l .inv .1)) (c .before .before .before .before .before .before .before .before .before .before .pre .1 .1)
+row-t-requires c κs =
+    let c10 = c .before .before .before .before .before .before .before .before .before .before in
+    let l = c .before .before .before .before .before .before .loop in let h = c .before .before .before .before .before .loop-test .taken in let i = c10 .pre .1 .0 (l .i) h in let s = c .before .before .before .start .ensures in let n = c .before .before .length .ensures in room (part (texts-more (c10 .args .pool .now) (l .i) (c10 .args .n) (c10 .args .strings .now) h (c10 .pre .0) _ _ s n (omega arith)) (l .inv .1)) (c10 .pre .1 .1)
 
 add-i : tie.Need-add-i Inv-loop μ-loop
 add-i c = search needs
@@ -61,7 +63,9 @@ loop-less : tie.Need-loop-less Inv-loop μ-loop
 loop-less c = let h = c .before .before .before .before .before .before .before .before .loop-test .taken in omega arith
 
 loop-again : tie.Need-loop-again Inv-loop μ-loop
-loop-again c = let l = c .before .before .before .before .before .before .before .before .before .loop in let h = c .before .before .before .before .before .before .before .before .loop-test .taken in let i = c .before .before .before .before .before .before .before .before .before .before .before .before .before .pre .1 .0 (l .i) h in let s = c .before .before .before .before .before .before .start .ensures in let n = c .before .before .before .before .before .length .ensures in (search needs, write (part (texts-more (c .before .before .before .before .before .before .before .before .before .before .before .before .before .args .pool .now) (l .i) (c .before .before .before .before .before .before .before .before .before .before .before .before .before .args .n) (c .before .before .before .before .before .before .before .before .before .before .before .before .before .args .strings .now) h (c .before .before .before .before .before .before .before .before .before .before .before .before .before .pre .0) _ _ s n (omega arith)) (l .inv .1)) (c .before .before .row-t .ensures) (c .before .before .row-t .kept .0))
+loop-again c =
+    let c13 = c .before .before .before .before .before .before .before .before .before .before .before .before .before in
+    let l = c .before .before .before .before .before .before .before .before .before .loop in let h = c .before .before .before .before .before .before .before .before .loop-test .taken in let i = c13 .pre .1 .0 (l .i) h in let s = c .before .before .before .before .before .before .start .ensures in let n = c .before .before .before .before .before .length .ensures in (search needs, write (part (texts-more (c13 .args .pool .now) (l .i) (c13 .args .n) (c13 .args .strings .now) h (c13 .pre .0) _ _ s n (omega arith)) (l .inv .1)) (c .before .before .row-t .ensures) (c .before .before .row-t .kept .0))
 
 same-length : tie.Need-same-length Inv-loop μ-loop
 same-length c = c .before .loop .inv .1 .same

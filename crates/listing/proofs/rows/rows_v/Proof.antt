@@ -28,7 +28,9 @@ shared-slice-read-v : tie.Need-shared-slice-read-v Inv-loop μ-loop
 shared-slice-read-v c = let h = c .before .loop-test .taken in let p = c .before .before .before .before .before .pre in omega arith
 
 row-v-requires : tie.Need-row-v-requires Inv-loop μ-loop
-row-v-requires c κs = let l = c .before .before .before .before .loop in room (part (names-more (l .i) (c .before .before .before .before .before .before .before .args .n) (c .before .before .before .before .before .before .before .args .names .now) (c .before .before .before .loop-test .taken) (c .before .before .before .before .before .before .before .pre .0) (c .before .if1 .taken)) (l .inv .1)) (c .before .before .before .before .before .before .before .pre .1)
+row-v-requires c κs =
+    let c7 = c .before .before .before .before .before .before .before in
+    let l = c .before .before .before .before .loop in room (part (names-more (l .i) (c7 .args .n) (c7 .args .names .now) (c .before .before .before .loop-test .taken) (c7 .pre .0) (c .before .if1 .taken)) (l .inv .1)) (c7 .pre .1)
 
 add-i : tie.Need-add-i Inv-loop μ-loop
 add-i c = search needs
@@ -37,7 +39,9 @@ loop-less : tie.Need-loop-less Inv-loop μ-loop
 loop-less c = let h = c .before .before .loop-test .taken in omega arith
 
 loop-again : tie.Need-loop-again Inv-loop μ-loop
-loop-again c = let l = c .before .before .before .loop in let h = c .before .before .loop-test .taken in let p = c .before .before .before .before .before .before .pre .0 in (search needs, ⊎-elim (λ w. rw (w .5, w .6) (write (part (names-more (l .i) (c .before .before .before .before .before .before .args .n) (c .before .before .before .before .before .before .args .names .now) h p (w .0 .taken)) (l .inv .1)) (w .2 .ensures) (w .2 .kept .0))) (λ w. rw (w .1, w .2) (part (names-mark (l .i) (c .before .before .before .before .before .before .args .n) (c .before .before .before .before .before .before .args .names .now) h p (w .0 .left)) (l .inv .1))) (c .if1 .came))
+loop-again c =
+    let c6 = c .before .before .before .before .before .before in
+    let l = c .before .before .before .loop in let h = c .before .before .loop-test .taken in let p = c6 .pre .0 in (search needs, ⊎-elim (λ w. rw (w .5, w .6) (write (part (names-more (l .i) (c6 .args .n) (c6 .args .names .now) h p (w .0 .taken)) (l .inv .1)) (w .2 .ensures) (w .2 .kept .0))) (λ w. rw (w .1, w .2) (part (names-mark (l .i) (c6 .args .n) (c6 .args .names .now) h p (w .0 .left)) (l .inv .1))) (c .if1 .came))
 
 same-length : tie.Need-same-length Inv-loop μ-loop
 same-length c = c .before .loop .inv .1 .same
