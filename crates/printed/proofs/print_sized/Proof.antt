@@ -64,7 +64,8 @@ same-length-7 c = search needs
 returns : tie.Need-returns
 returns c =
     let c28 = c .before .before .before .before .before .before .before .before .before .before .before .before .before .before .before .before .before .before .before .before .before .before .before .before .before .before .before .before in
-    let p = c .before .before .before .before .before .before .before .before .before .before .before .before .before .print-in .ensures in record { text = p .text ∙ lent-prints (c28 .args .out .now) (c28 .args .input .now) (c28 .args .z) (c28 .args .sections .now) (c28 .args .instructions .now) (c28 .args .numbers .now) (c28 .args .strings .now) (c28 .args .pool .now) (c28 .args .names .now) (c28 .pre); within = p .within }
+    let p = c .before .before .before .before .before .before .before .before .before .before .before .before .before .print-in .ensures in
+    record { text = p .text ∙ lent-prints (c28 .args .out .now) (c28 .args .input .now) (c28 .args .z) (c28 .args .sections .now) (c28 .args .instructions .now) (c28 .args .numbers .now) (c28 .args .strings .now) (c28 .args .pool .now) (c28 .args .names .now) (c28 .pre); within = p .within }
 
 pub print-sized-spec : {M : Type 1} → statement M
 print-sized-spec =

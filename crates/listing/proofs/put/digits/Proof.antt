@@ -35,19 +35,33 @@ same-length : tie.Need-same-length Inv-loop μ-loop
 same-length c = let i = c .before .before .loop .inv in let p = c .before .before .before .pre in simp length-set (i .1 ∙ sym p)
 
 returns : tie.Need-returns Inv-loop μ-loop
-returns c = let l = c .before .before .loop in let i = l .inv in let h = c .before .loop-test .taken in let b : l .k ≤ length (l .d) = omega arith in (omega arith, digit-last (l .d) (l .x) (l .k) h b (c .if1 .taken) ∙ i .2)
+returns c =
+    let l = c .before .before .loop in
+    let i = l .inv in
+    let h = c .before .loop-test .taken in
+    let b : l .k ≤ length (l .d) = omega arith in
+    (omega arith, digit-last (l .d) (l .x) (l .k) h b (c .if1 .taken) ∙ i .2)
 
 loop-less : tie.Need-loop-less Inv-loop μ-loop
 loop-less c = let h = c .before .loop-test .taken in omega arith
 
 loop-again : tie.Need-loop-again Inv-loop μ-loop
-loop-again c = let l = c .before .before .loop in let i = l .inv in let h = c .before .loop-test .taken in let b : l .k ≤ length (l .d) = omega arith in (omega arith, simp length-set (i .1), digit-more (l .d) (l .x) (l .k) h b (c .if1 .left) ∙ i .2)
+loop-again c =
+    let l = c .before .before .loop in
+    let i = l .inv in
+    let h = c .before .loop-test .taken in
+    let b : l .k ≤ length (l .d) = omega arith in
+    (omega arith, simp length-set (i .1), digit-more (l .d) (l .x) (l .k) h b (c .if1 .left) ∙ i .2)
 
 same-length-2 : tie.Need-same-length-2 Inv-loop μ-loop
 same-length-2 c = c .before .loop .inv .1 ∙ sym (c .before .before .pre)
 
 returns-2 : tie.Need-returns-2 Inv-loop μ-loop
-returns-2 c = let l = c .before .loop in let i = l .inv in let h = c .loop-test .left in (i .0, no-room (l .d) (l .x) (l .k) (omega arith) ∙ i .2)
+returns-2 c =
+    let l = c .before .loop in
+    let i = l .inv in
+    let h = c .loop-test .left in
+    (i .0, no-room (l .d) (l .x) (l .k) (omega arith) ∙ i .2)
 
 pub digits-spec : {M : Type 1} → statement M
 digits-spec =

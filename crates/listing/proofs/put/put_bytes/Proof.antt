@@ -25,7 +25,11 @@ add-out : tie.Need-add-out Inv-loop μ-loop
 add-out c = search needs
 
 slice-write-out : tie.Need-slice-write-out Inv-loop μ-loop
-slice-write-out c = let i = c .before .before .loop .inv in let h = c .before .loop-test .taken in let p = c .before .before .before .pre in omega arith
+slice-write-out c =
+    let i = c .before .before .loop .inv in
+    let h = c .before .loop-test .taken in
+    let p = c .before .before .before .pre in
+    omega arith
 
 add-i : tie.Need-add-i Inv-loop μ-loop
 add-i c = search needs
@@ -34,7 +38,12 @@ loop-less : tie.Need-loop-less Inv-loop μ-loop
 loop-less c = let h = c .before .loop-test .taken in omega arith
 
 loop-again : tie.Need-loop-again Inv-loop μ-loop
-loop-again c = let l = c .before .before .loop in let i = l .inv in let h = c .before .loop-test .taken in let p = c .before .before .before .pre in (search needs, simp length-set (i .1), one-more (c .before .before .before .args .s .now) (l .i) h (omega arith) (i .2))
+loop-again c =
+    let l = c .before .before .loop in
+    let i = l .inv in
+    let h = c .before .loop-test .taken in
+    let p = c .before .before .before .pre in
+    (search needs, simp length-set (i .1), one-more (c .before .before .before .args .s .now) (l .i) h (omega arith) (i .2))
 
 add-result : tie.Need-add-result Inv-loop μ-loop
 add-result c = let i = c .before .loop .inv in let p = c .before .before .pre in let g = c .before .before .good in omega arith

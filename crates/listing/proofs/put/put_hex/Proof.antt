@@ -27,7 +27,10 @@ hex-digit-requires : tie.Need-hex-digit-requires Inv-loop μ-loop
 hex-digit-requires c κs = let k = c .before .shared-slice-known2 .given (c .before .before .before .loop .i) in omega arith
 
 put-requires : tie.Need-put-requires Inv-loop μ-loop
-put-requires c κs = let l = c .before .before .before .before .loop in let s = c .before .before .before .before .before .before .before .args .s .now in room (part (hex-more s (l .i) (c .before .before .before .loop-test .taken) (c .hex-digit .ensures) refl) (l .inv .1)) (c .before .before .before .before .before .before .before .pre)
+put-requires c κs =
+    let l = c .before .before .before .before .loop in
+    let s = c .before .before .before .before .before .before .before .args .s .now in
+    room (part (hex-more s (l .i) (c .before .before .before .loop-test .taken) (c .hex-digit .ensures) refl) (l .inv .1)) (c .before .before .before .before .before .before .before .pre)
 
 hex-digit-requires-2 : tie.Need-hex-digit-requires-2 Inv-loop μ-loop
 hex-digit-requires-2 c κs = search needs
@@ -36,24 +39,33 @@ put-requires-2 : tie.Need-put-requires-2 Inv-loop μ-loop
 put-requires-2 c κs =
     let c4 = c .before .before .before .before in
     let c12 = c4 .before .before .before .before .before .before .before .before in
-    let l = c .before .before .before .before .before .before .before .before .before .loop in let s = c12 .args .s .now in room (write (part (hex-more s (l .i) (c .before .before .before .before .before .before .before .before .loop-test .taken) (c .before .before .before .before .before .hex-digit .ensures) (c .hex-digit2 .ensures)) (l .inv .1)) (c4 .put .ensures) (c4 .put .kept .0)) (c12 .pre)
+    let l = c .before .before .before .before .before .before .before .before .before .loop in
+    let s = c12 .args .s .now in
+    room (write (part (hex-more s (l .i) (c .before .before .before .before .before .before .before .before .loop-test .taken) (c .before .before .before .before .before .hex-digit .ensures) (c .hex-digit2 .ensures)) (l .inv .1)) (c4 .put .ensures) (c4 .put .kept .0)) (c12 .pre)
 
 add-i : tie.Need-add-i Inv-loop μ-loop
 add-i c = search needs
 
 loop-less : tie.Need-loop-less Inv-loop μ-loop
-loop-less c = let h = c .before .before .before .before .before .before .before .before .before .before .before .loop-test .taken in omega arith
+loop-less c =
+    let h = c .before .before .before .before .before .before .before .before .before .before .before .loop-test .taken in
+    omega arith
 
 loop-again : tie.Need-loop-again Inv-loop μ-loop
 loop-again c =
     let c7 = c .before .before .before .before .before .before .before in
-    let l = c .before .before .before .before .before .before .before .before .before .before .before .before .loop in let s = c .before .before .before .before .before .before .before .before .before .before .before .before .before .before .before .args .s .now in let h = c .before .before .before .before .before .before .before .before .before .before .before .loop-test .taken in (search needs, write (write (part (hex-more s (l .i) h (c .before .before .before .before .before .before .before .before .hex-digit .ensures) (c .before .before .before .hex-digit2 .ensures)) (l .inv .1)) (c7 .put .ensures) (c7 .put .kept .0)) (c .before .before .put2 .ensures) (c .before .before .put2 .kept .0))
+    let l = c .before .before .before .before .before .before .before .before .before .before .before .before .loop in
+    let s = c .before .before .before .before .before .before .before .before .before .before .before .before .before .before .before .args .s .now in
+    let h = c .before .before .before .before .before .before .before .before .before .before .before .loop-test .taken in
+    (search needs, write (write (part (hex-more s (l .i) h (c .before .before .before .before .before .before .before .before .hex-digit .ensures) (c .before .before .before .hex-digit2 .ensures)) (l .inv .1)) (c7 .put .ensures) (c7 .put .kept .0)) (c .before .before .put2 .ensures) (c .before .before .put2 .kept .0))
 
 same-length : tie.Need-same-length Inv-loop μ-loop
 same-length c = c .before .loop .inv .1 .same
 
 returns : tie.Need-returns Inv-loop μ-loop
-returns c = let l = c .before .loop in done (part (hex-none (c .before .before .before .before .args .s .now) (l .i) (c .loop-test .left) (l .inv .0)) (l .inv .1))
+returns c =
+    let l = c .before .loop in
+    done (part (hex-none (c .before .before .before .before .args .s .now) (l .i) (c .loop-test .left) (l .inv .0)) (l .inv .1))
 
 pub put-hex-spec : {M : Type 1} → statement M
 put-hex-spec =

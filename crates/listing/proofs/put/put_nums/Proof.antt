@@ -26,7 +26,9 @@ shared-slice-read-v : tie.Need-shared-slice-read-v Inv-loop μ-loop
 shared-slice-read-v c = search needs
 
 put-num-requires : tie.Need-put-num-requires Inv-loop μ-loop
-put-num-requires c κs = let l = c .before .before .before .loop in room (part (nums-more (c .before .before .before .before .before .before .args .vs .now) (l .i) (c .before .before .loop-test .taken)) (l .inv .1)) (c .before .before .before .before .before .before .pre)
+put-num-requires c κs =
+    let l = c .before .before .before .loop in
+    room (part (nums-more (c .before .before .before .before .before .before .args .vs .now) (l .i) (c .before .before .loop-test .taken)) (l .inv .1)) (c .before .before .before .before .before .before .pre)
 
 add-i : tie.Need-add-i Inv-loop μ-loop
 add-i c = search needs
@@ -35,13 +37,18 @@ loop-less : tie.Need-loop-less Inv-loop μ-loop
 loop-less c = let h = c .before .before .before .before .before .loop-test .taken in omega arith
 
 loop-again : tie.Need-loop-again Inv-loop μ-loop
-loop-again c = let l = c .before .before .before .before .before .before .loop in let h = c .before .before .before .before .before .loop-test .taken in (search needs, write (part (nums-more (c .before .before .before .before .before .before .before .before .before .args .vs .now) (l .i) h) (l .inv .1)) (c .before .before .put-num .ensures) (c .before .before .put-num .kept .0))
+loop-again c =
+    let l = c .before .before .before .before .before .before .loop in
+    let h = c .before .before .before .before .before .loop-test .taken in
+    (search needs, write (part (nums-more (c .before .before .before .before .before .before .before .before .before .args .vs .now) (l .i) h) (l .inv .1)) (c .before .before .put-num .ensures) (c .before .before .put-num .kept .0))
 
 same-length : tie.Need-same-length Inv-loop μ-loop
 same-length c = c .before .loop .inv .1 .same
 
 returns : tie.Need-returns Inv-loop μ-loop
-returns c = let l = c .before .loop in done (part (nums-none (c .before .before .before .before .args .vs .now) (l .i) (c .loop-test .left) (l .inv .0)) (l .inv .1))
+returns c =
+    let l = c .before .loop in
+    done (part (nums-none (c .before .before .before .before .args .vs .now) (l .i) (c .loop-test .left) (l .inv .0)) (l .inv .1))
 
 pub put-nums-spec : {M : Type 1} → statement M
 put-nums-spec =

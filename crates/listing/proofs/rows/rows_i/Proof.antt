@@ -29,7 +29,8 @@ shared-slice-read-t12 c = let h = c .before .loop-test .taken in let p = c .befo
 row-i-requires : tie.Need-row-i-requires Inv-loop μ-loop
 row-i-requires c κs =
     let c6 = c .before .before .before .before .before .before in
-    let l = c .before .before .before .loop in room (part (instrs-more (l .i) (c6 .args .to) (c6 .args .instructions .now) (c .before .before .loop-test .taken) (c6 .pre .1 .0)) (l .inv .2)) (c6 .pre .1 .1)
+    let l = c .before .before .before .loop in
+    room (part (instrs-more (l .i) (c6 .args .to) (c6 .args .instructions .now) (c .before .before .loop-test .taken) (c6 .pre .1 .0)) (l .inv .2)) (c6 .pre .1 .1)
 
 add-i : tie.Need-add-i Inv-loop μ-loop
 add-i c = search needs
@@ -40,13 +41,17 @@ loop-less c = let h = c .before .before .before .before .before .loop-test .take
 loop-again : tie.Need-loop-again Inv-loop μ-loop
 loop-again c =
     let c9 = c .before .before .before .before .before .before .before .before .before in
-    let l = c .before .before .before .before .before .before .loop in let h = c .before .before .before .before .before .loop-test .taken in (search needs, search needs, write (part (instrs-more (l .i) (c9 .args .to) (c9 .args .instructions .now) h (c9 .pre .1 .0)) (l .inv .2)) (c .before .before .row-i .ensures) (c .before .before .row-i .kept .0))
+    let l = c .before .before .before .before .before .before .loop in
+    let h = c .before .before .before .before .before .loop-test .taken in
+    (search needs, search needs, write (part (instrs-more (l .i) (c9 .args .to) (c9 .args .instructions .now) h (c9 .pre .1 .0)) (l .inv .2)) (c .before .before .row-i .ensures) (c .before .before .row-i .kept .0))
 
 same-length : tie.Need-same-length Inv-loop μ-loop
 same-length c = c .before .loop .inv .2 .same
 
 returns : tie.Need-returns Inv-loop μ-loop
-returns c = let l = c .before .loop in done (part (instrs-none (l .i) (c .before .before .before .before .args .to) (c .before .before .before .before .args .instructions .now) (c .loop-test .left) (l .inv .1)) (l .inv .2))
+returns c =
+    let l = c .before .loop in
+    done (part (instrs-none (l .i) (c .before .before .before .before .args .to) (c .before .before .before .before .args .instructions .now) (c .loop-test .left) (l .inv .1)) (l .inv .2))
 
 pub rows-i-spec : {M : Type 1} → statement M
 rows-i-spec =

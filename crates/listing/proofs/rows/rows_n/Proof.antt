@@ -29,7 +29,8 @@ shared-slice-copy-out-z c = let h = c .loop-test .taken in let p = c .before .be
 row-n-requires : tie.Need-row-n-requires Inv-loop μ-loop
 row-n-requires c κs =
     let c5 = c .before .before .before .before .before in
-    let l = c .before .before .before .loop in room (part (numbers-more (l .i) (c5 .args .n) (c5 .args .numbers .now) (c .before .before .loop-test .taken) (c5 .pre .0) (record { sfits = c .before .z .given })) (l .inv .1)) (c5 .pre .1)
+    let l = c .before .before .before .loop in
+    room (part (numbers-more (l .i) (c5 .args .n) (c5 .args .numbers .now) (c .before .before .loop-test .taken) (c5 .pre .0) (record { sfits = c .before .z .given })) (l .inv .1)) (c5 .pre .1)
 
 add-i : tie.Need-add-i Inv-loop μ-loop
 add-i c = search needs
@@ -40,13 +41,17 @@ loop-less c = let h = c .before .before .before .before .before .loop-test .take
 loop-again : tie.Need-loop-again Inv-loop μ-loop
 loop-again c =
     let c8 = c .before .before .before .before .before .before .before .before in
-    let l = c .before .before .before .before .before .before .loop in let h = c .before .before .before .before .before .loop-test .taken in (search needs, write (part (numbers-more (l .i) (c8 .args .n) (c8 .args .numbers .now) h (c8 .pre .0) (record { sfits = c .before .before .before .before .z .given })) (l .inv .1)) (c .before .before .row-n .ensures) (c .before .before .row-n .kept .0))
+    let l = c .before .before .before .before .before .before .loop in
+    let h = c .before .before .before .before .before .loop-test .taken in
+    (search needs, write (part (numbers-more (l .i) (c8 .args .n) (c8 .args .numbers .now) h (c8 .pre .0) (record { sfits = c .before .before .before .before .z .given })) (l .inv .1)) (c .before .before .row-n .ensures) (c .before .before .row-n .kept .0))
 
 same-length : tie.Need-same-length Inv-loop μ-loop
 same-length c = c .before .loop .inv .1 .same
 
 returns : tie.Need-returns Inv-loop μ-loop
-returns c = let l = c .before .loop in done (part (numbers-none (l .i) (c .before .before .before .args .n) (c .before .before .before .args .numbers .now) (c .loop-test .left) (l .inv .0)) (l .inv .1))
+returns c =
+    let l = c .before .loop in
+    done (part (numbers-none (l .i) (c .before .before .before .args .n) (c .before .before .before .args .numbers .now) (c .loop-test .left) (l .inv .0)) (l .inv .1))
 
 pub rows-n-spec : {M : Type 1} → statement M
 rows-n-spec =

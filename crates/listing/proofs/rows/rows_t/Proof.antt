@@ -25,7 +25,10 @@ mul-t12 : tie.Need-mul-t12 Inv-loop μ-loop
 mul-t12 c = let h = c .loop-test .taken in let p = c .before .before .before .before .before .pre in search needs
 
 shared-slice-read-t14 : tie.Need-shared-slice-read-t14 Inv-loop μ-loop
-shared-slice-read-t14 c = let h = c .before .loop-test .taken in let p = c .before .before .before .before .before .before .pre in omega arith
+shared-slice-read-t14 c =
+    let h = c .before .loop-test .taken in
+    let p = c .before .before .before .before .before .before .pre in
+    omega arith
 
 start-requires : tie.Need-start-requires Inv-loop μ-loop
 start-requires c κs = search needs
@@ -49,12 +52,23 @@ part-row-t-start : tie.Need-part-row-t-start Inv-loop μ-loop
 part-row-t-start c = search needs
 
 part-row-t-end : tie.Need-part-row-t-end Inv-loop μ-loop
-part-row-t-end c = let l = c .before .before .before .before .before .loop in let h = c .before .before .before .before .loop-test .taken in let i = c .before .before .before .before .before .before .before .before .before .pre .1 .0 (l .i) h in let s = c .before .before .start .ensures in let n = c .before .length .ensures in omega arith
+part-row-t-end c =
+    let l = c .before .before .before .before .before .loop in
+    let h = c .before .before .before .before .loop-test .taken in
+    let i = c .before .before .before .before .before .before .before .before .before .pre .1 .0 (l .i) h in
+    let s = c .before .before .start .ensures in
+    let n = c .before .length .ensures in
+    omega arith
 
 row-t-requires : tie.Need-row-t-requires Inv-loop μ-loop
 row-t-requires c κs =
     let c10 = c .before .before .before .before .before .before .before .before .before .before in
-    let l = c .before .before .before .before .before .before .loop in let h = c .before .before .before .before .before .loop-test .taken in let i = c10 .pre .1 .0 (l .i) h in let s = c .before .before .before .start .ensures in let n = c .before .before .length .ensures in room (part (texts-more (c10 .args .pool .now) (l .i) (c10 .args .n) (c10 .args .strings .now) h (c10 .pre .0) _ _ s n (omega arith)) (l .inv .1)) (c10 .pre .1 .1)
+    let l = c .before .before .before .before .before .before .loop in
+    let h = c .before .before .before .before .before .loop-test .taken in
+    let i = c10 .pre .1 .0 (l .i) h in
+    let s = c .before .before .before .start .ensures in
+    let n = c .before .before .length .ensures in
+    room (part (texts-more (c10 .args .pool .now) (l .i) (c10 .args .n) (c10 .args .strings .now) h (c10 .pre .0) _ _ s n (omega arith)) (l .inv .1)) (c10 .pre .1 .1)
 
 add-i : tie.Need-add-i Inv-loop μ-loop
 add-i c = search needs
@@ -65,13 +79,20 @@ loop-less c = let h = c .before .before .before .before .before .before .before 
 loop-again : tie.Need-loop-again Inv-loop μ-loop
 loop-again c =
     let c13 = c .before .before .before .before .before .before .before .before .before .before .before .before .before in
-    let l = c .before .before .before .before .before .before .before .before .before .loop in let h = c .before .before .before .before .before .before .before .before .loop-test .taken in let i = c13 .pre .1 .0 (l .i) h in let s = c .before .before .before .before .before .before .start .ensures in let n = c .before .before .before .before .before .length .ensures in (search needs, write (part (texts-more (c13 .args .pool .now) (l .i) (c13 .args .n) (c13 .args .strings .now) h (c13 .pre .0) _ _ s n (omega arith)) (l .inv .1)) (c .before .before .row-t .ensures) (c .before .before .row-t .kept .0))
+    let l = c .before .before .before .before .before .before .before .before .before .loop in
+    let h = c .before .before .before .before .before .before .before .before .loop-test .taken in
+    let i = c13 .pre .1 .0 (l .i) h in
+    let s = c .before .before .before .before .before .before .start .ensures in
+    let n = c .before .before .before .before .before .length .ensures in
+    (search needs, write (part (texts-more (c13 .args .pool .now) (l .i) (c13 .args .n) (c13 .args .strings .now) h (c13 .pre .0) _ _ s n (omega arith)) (l .inv .1)) (c .before .before .row-t .ensures) (c .before .before .row-t .kept .0))
 
 same-length : tie.Need-same-length Inv-loop μ-loop
 same-length c = c .before .loop .inv .1 .same
 
 returns : tie.Need-returns Inv-loop μ-loop
-returns c = let l = c .before .loop in done (part (texts-none (c .before .before .before .before .before .args .pool .now) (l .i) (c .before .before .before .before .before .args .n) (c .before .before .before .before .before .args .strings .now) (c .loop-test .left) (l .inv .0)) (l .inv .1))
+returns c =
+    let l = c .before .loop in
+    done (part (texts-none (c .before .before .before .before .before .args .pool .now) (l .i) (c .before .before .before .before .before .args .n) (c .before .before .before .before .before .args .strings .now) (c .loop-test .left) (l .inv .0)) (l .inv .1))
 
 pub rows-t-spec : {M : Type 1} → statement M
 rows-t-spec =

@@ -30,7 +30,8 @@ shared-slice-read-v c = let h = c .before .loop-test .taken in let p = c .before
 row-v-requires : tie.Need-row-v-requires Inv-loop μ-loop
 row-v-requires c κs =
     let c7 = c .before .before .before .before .before .before .before in
-    let l = c .before .before .before .before .loop in room (part (names-more (l .i) (c7 .args .n) (c7 .args .names .now) (c .before .before .before .loop-test .taken) (c7 .pre .0) (c .before .if1 .taken)) (l .inv .1)) (c7 .pre .1)
+    let l = c .before .before .before .before .loop in
+    room (part (names-more (l .i) (c7 .args .n) (c7 .args .names .now) (c .before .before .before .loop-test .taken) (c7 .pre .0) (c .before .if1 .taken)) (l .inv .1)) (c7 .pre .1)
 
 add-i : tie.Need-add-i Inv-loop μ-loop
 add-i c = search needs
@@ -41,13 +42,18 @@ loop-less c = let h = c .before .before .loop-test .taken in omega arith
 loop-again : tie.Need-loop-again Inv-loop μ-loop
 loop-again c =
     let c6 = c .before .before .before .before .before .before in
-    let l = c .before .before .before .loop in let h = c .before .before .loop-test .taken in let p = c6 .pre .0 in (search needs, ⊎-elim (λ w. rw (w .5, w .6) (write (part (names-more (l .i) (c6 .args .n) (c6 .args .names .now) h p (w .0 .taken)) (l .inv .1)) (w .2 .ensures) (w .2 .kept .0))) (λ w. rw (w .1, w .2) (part (names-mark (l .i) (c6 .args .n) (c6 .args .names .now) h p (w .0 .left)) (l .inv .1))) (c .if1 .came))
+    let l = c .before .before .before .loop in
+    let h = c .before .before .loop-test .taken in
+    let p = c6 .pre .0 in
+    (search needs, ⊎-elim (λ w. rw (w .5, w .6) (write (part (names-more (l .i) (c6 .args .n) (c6 .args .names .now) h p (w .0 .taken)) (l .inv .1)) (w .2 .ensures) (w .2 .kept .0))) (λ w. rw (w .1, w .2) (part (names-mark (l .i) (c6 .args .n) (c6 .args .names .now) h p (w .0 .left)) (l .inv .1))) (c .if1 .came))
 
 same-length : tie.Need-same-length Inv-loop μ-loop
 same-length c = c .before .loop .inv .1 .same
 
 returns : tie.Need-returns Inv-loop μ-loop
-returns c = let l = c .before .loop in done (part (names-none (l .i) (c .before .before .before .before .args .n) (c .before .before .before .before .args .names .now) (c .loop-test .left) (l .inv .0)) (l .inv .1))
+returns c =
+    let l = c .before .loop in
+    done (part (names-none (l .i) (c .before .before .before .before .args .n) (c .before .before .before .before .args .names .now) (c .loop-test .left) (l .inv .0)) (l .inv .1))
 
 pub rows-v-spec : {M : Type 1} → statement M
 rows-v-spec =
