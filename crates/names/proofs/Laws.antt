@@ -127,7 +127,7 @@ unfolding endAt
 end-more s zero p h = absurd (omega arith)
 end-more s (suc k) p h = rw sub-one
 
-end-snoc : (s : List ℕ) (k p : ℕ) → endAt s (suc k) p ≡ nextName s (endAt s k p)
+pub end-snoc : (s : List ℕ) (k p : ℕ) → endAt s (suc k) p ≡ nextName s (endAt s k p)
 unfolding endAt
 end-snoc s zero p = refl
 end-snoc s (suc k) p = end-snoc s k (nextName s p)

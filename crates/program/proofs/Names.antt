@@ -11,7 +11,7 @@ use Rattle.rules.specs.Constants.{mark}
 use Rattle.rules.specs.Tree.{Name}
 use Rattle.rules.specs.Lowered.{Options, nameWord, protects, nameWords}
 use Rattle.names.specs.Names.{nameAt, namesAt, nextName, endAt}
-use Rattle.names.proofs.Laws.{end-ge, next-gt}
+use Rattle.names.proofs.Laws.{end-ge, end-snoc, next-gt}
 use Rattle.tree.specs.Files.{Placed}
 use Rattle.codegen.specs.Does.{regWord}
 use Rattle.program.specs.Names.{wordsTo, WordsTo}
@@ -94,9 +94,4 @@ name-inside s (suc n) zero p h = omega (arith, end-ge s n (nextName s p), next-g
 name-inside s (suc n) (suc k) p h = name-inside s n k (nextName s p) (omega arith)
 
 pub name-next : (s : List ℕ) (k p : ℕ) → nextName s (endAt s k p) ≡ endAt s (k + 1) p
-unfolding endAt
-name-next s k p = rw add-one (go s k p)
-  where
-    go : (s : List ℕ) (k p : ℕ) → nextName s (endAt s k p) ≡ endAt s (suc k) p
-    go s zero p = refl
-    go s (suc k) p = go s k (nextName s p)
+name-next s k p = rw add-one (sym (end-snoc s k p))
