@@ -1,6 +1,5 @@
 // The listing of a machine in lent tables, shown to be `listing` of `rules` of the machine that the words hold. Asks that they hold one, and for
 // just that much room.
-ghost use mathlib.Core.Path.{_≡_};
 ghost use Rattle.tables.specs.Lent.{countsTold, tables};
 ghost use Rattle.listing.specs.Listed.{Lists, Listed};
 use crate::row::row_m;

@@ -1,8 +1,7 @@
 // Single rows, each written behind what stands in a lent slice already, and shown to be that of `rules`. Asks for just that much room.
 ghost use mathlib.Core.Path.{_≡_};
 ghost use mathlib.Core.List.{_++_};
-ghost use Rattle.rules.specs.Word.{wordRun};
-ghost use Rattle.rules.specs.Tables.{kindOf, targetOf, successOf, flag as flagS};
+ghost use Rattle.rules.specs.Tables.{flag as flagS};
 ghost use Rattle.rules.specs.Listing as Listing;
 ghost use Rattle.tables.specs.Lent.{countsTold};
 ghost use Rattle.listing.specs.Wrote.{Room, Wrote};

@@ -19,6 +19,7 @@ use Rattle.rules.specs.Replace.{replaced}
 use Rattle.rules.specs.Clean.{cleaned}
 use Rattle.rules.specs.Combine.{combined}
 use Rattle.walks.specs.DemandProof.{strings-stay, length-spans}
+use Rattle.walks.specs.Parsed.{refused≢ok}
 use Rattle.walks.specs.Bounds.{small}
 use Rattle.walks.specs.Calls.{Finishes, finishes}
 use Rattle.tables.specs.Lent.{countsTold, answerTold}
@@ -37,9 +38,6 @@ use Rattle.printed.proofs.Lengths.{refusal-length, listing-length}
 abbrev pub options : Options
 options = record { locals = false; globals = true }
 
-refused-not-ok : {A : Type 0} (n : ℕ) (a : A) → refused n ≡ ok a → ⊥
-refused-not-ok n a e = let z : _≡_ {A = ℕ} 0 1 = cc in omega arith
-
 -- ---- words that hold a machine keep the rules
 
 pub fits-so : (t : Tables) (u : Counts) (m : Machine) → decode t u ≡ ok m → fits t u ≡ true
@@ -48,7 +46,7 @@ fits-so t u m e = go (fits t u) refl
   where
     go : (b : Bool) → fits t u ≡ b → fits t u ≡ true
     go true q = q
-    go false q = absurd (refused-not-ok Refusal.breaksRules m (rw (q, decode) at e))
+    go false q = absurd (refused≢ok Refusal.breaksRules m (rw (q, decode) at e))
 
 -- ---- by the file
 
@@ -59,7 +57,7 @@ module _ (s : List ℕ) (t t′ : Tables) where
     where
       by-room : (x : Tree) → parse s ≡ ok x → (b : Bool) → holds t (estimate (sizeOf x)) ≡ b → refusal n ≡ printed s t
       by-room x p false q = rw (p, printed, q) (let r : refused n ≡ refused Refusal.noRoom = ap (λ (z : Res Counts × Tables). z .0) (rw (p, build, q) at e) in let k : n ≡ Refusal.noRoom = cc in ap refusal k)
-      by-room x p true q = absurd (refused-not-ok n _ (ap (λ (z : Res Counts × Tables). z .0) (rw (p, build, q) at e)))
+      by-room x p true q = absurd (refused≢ok n _ (ap (λ (z : Res Counts × Tables). z .0) (rw (p, build, q) at e)))
 
       by-tree : (p : Res Tree) → parse s ≡ p → refusal n ≡ printed s t
       by-tree (refused k) p = rw (p, printed) (let r : refused n ≡ refused k = ap (λ (z : Res Counts × Tables). z .0) (rw (p, build) at e) in let j : n ≡ k = cc in ap refusal j)
@@ -78,7 +76,7 @@ module _ (s : List ℕ) (t t′ : Tables) where
       where
         by-room : (b : Bool) → holds t (estimate (sizeOf (its .tree))) ≡ b → listing (finished options (its .tree)) ≡ printed s t
         by-room true q = rw (its .parsed, printed, q)
-        by-room false q = absurd (refused-not-ok Refusal.noRoom u (sym (ap (λ (z : Res Counts × Tables). z .0) (rw (its .parsed, build, q) at e))))
+        by-room false q = absurd (refused≢ok Refusal.noRoom u (sym (ap (λ (z : Res Counts × Tables). z .0) (rw (its .parsed, build, q) at e))))
 
 -- ---- the code's answer
 

@@ -20,15 +20,13 @@ use Rattle.rules.specs.Operations.{Size, sizeOf, size, estimate, holds}
 use Rattle.rules.specs.Listing.{refusal, fitsFinlist, finlist}
 use Rattle.walks.specs.LimitsTree.{limits}
 use Rattle.walks.specs.Estimate.{estimated}
+use Rattle.walks.specs.Parsed.{refused≢ok}
 use Rattle.walks.specs.Bounds.{small}
 use Rattle.tree.specs.Files.{sized}
 use Rattle.tree.specs.declared.Sizes.{Sizes}
 use Rattle.tables.specs.Lent.{tables}
 use Rattle.tables.proofs.Sound.{no}
 use Rattle.printed.specs.Prints.{printed, Roomy, SizedRoom}
-
-refused-not-ok : {A : Type 0} (n : ℕ) (a : A) → refused n ≡ ok a → ⊥
-refused-not-ok n a e = let z : _≡_ {A = ℕ} 0 1 = cc in omega arith
 
 -- ---- longer than finlist reads, or refused
 
@@ -42,7 +40,7 @@ refused-file s n h e = by (parse s) refl
   where
     by : (p : Res Tree) → parse s ≡ p → refusal n ≡ finlist s
     by (refused k) p = rw (le-leb (length s) finlistBytes h, p, finlist) (let r : refused n ≡ refused k = rw (p, size) at e in let j : n ≡ k = cc in ap refusal j)
-    by (ok x) p = absurd (refused-not-ok n _ (rw (p, size) at e))
+    by (ok x) p = absurd (refused≢ok n _ (rw (p, size) at e))
 
 -- ---- the tree
 
@@ -56,7 +54,7 @@ unfolding size
 its s z e = by (parse s) refl
   where
     by : (p : Res Tree) → parse s ≡ p → Its s z
-    by (refused k) p = absurd (refused-not-ok k _ (rw (p, size) at e))
+    by (refused k) p = absurd (refused≢ok k _ (rw (p, size) at e))
     by (ok x) p = record { tree = x; parsed = p; sizes = let r : ok (sizeOf x) ≡ ok (sized z) = rw (p, size) at e in cc }
 
 module _ (s : List ℕ) (z : Sizes) (e : size s ≡ ok (sized z)) where

@@ -1,10 +1,10 @@
 -- What is printed for a file in lent tables, and the room for it.
 use mathlib.Core.Path.{_≡_}
-use mathlib.Core.Bool.{Bool, true, false}
+use mathlib.Core.Bool.{true, false}
 use mathlib.Core.List.{List}
 use Prim.Native.Nat.{ℕ, _+_, _*_, _≤_}
 use lib.ListN.{length, take}
-use Rattle.rules.specs.Bits.{Res, refused, ok}
+use Rattle.rules.specs.Bits.{refused, ok}
 use Rattle.rules.specs.Constants.{finlistBytes, finlistSections, finlistInstrs, finlistNumbers, mostNodes, mostLines}
 use Rattle.rules.specs.Refusal as Refusal
 use Rattle.rules.specs.Parse.{parse}

@@ -1,5 +1,4 @@
 // What finlist prints for a file, as bytes: shown equal to `finlist` of `rules`. Asks for room for the longest listing.
-ghost use mathlib.Core.Path.{_≡_};
 ghost use Prim.Native.Nat.{_≤_};
 ghost use lib.ListN.{length};
 ghost use Rattle.rules.specs.Listing as Listing;
