@@ -20,8 +20,8 @@ use Rattle.rules.specs.Lowered.{spans, texts}
 use Rattle.rules.specs.Operators.{errorJump, getVariable, guard, incdecOp}
 use Rattle.words.specs.declared.instr.Section.{Section}
 use Rattle.codegen.specs.declared.state.Counters.{Counters}
-use Rattle.codegen.specs.Does.{wordTo, regWord, Lent, lent, Base, Stands, Went, Does, _▷_}
-use Rattle.codegen.specs.Costs.{guardCost}
+use Rattle.codegen.specs.Does.{wordTo, regWord, Lent, lent, Base, Stands, Went, Does, DoesNone, DoesCode, DoesNums, _▷_}
+use Rattle.codegen.specs.Costs.{Spent, plus-instr, plus-number, plus-value, plus-string, guardCost}
 use Rattle.codegen.proofs.Lists.{sets-start, sets-more, map-append, length-map, length-more, texts-more, spans-more, length-spans, name-read, name-stored, below-stored}
 
 -- ---- the two laws of all steps
@@ -38,20 +38,6 @@ then {n} {m} k {c2 = c2} {t2 = t2} {b = r} d e =
 -- a step that is another one by its definition
 pub same : {n : ℕ} {m m' : Lower ℕ} {c c' : Counters} {t t' : Lent} {a : ℕ} → m ≡ m' → Does n m' c t t' a c' → Does n m c t t' a c'
 same e d = rw e d
-
--- ---- counters with one more
-
-abbrev pub plus-instr : Counters → Counters
-plus-instr c = record { at = c .at + 1; numbers = c .numbers; strings = c .strings; chars = c .chars; values = c .values; err = c .err }
-
-abbrev pub plus-number : Counters → Counters
-plus-number c = record { at = c .at; numbers = c .numbers + 1; strings = c .strings; chars = c .chars; values = c .values; err = c .err }
-
-abbrev pub plus-value : Counters → Counters
-plus-value c = record { at = c .at; numbers = c .numbers; strings = c .strings; chars = c .chars; values = c .values + 1; err = c .err }
-
-abbrev pub plus-string : ℕ → Counters → Counters
-plus-string h c = record { at = c .at; numbers = c .numbers; strings = c .strings + 1; chars = c .chars + h; values = c .values; err = c .err }
 
 -- ---- the steps
 
@@ -247,3 +233,24 @@ incdec-small false o e = omega arith
 pub stored : {n : ℕ} {c : Counters} {is : List ℕ} {ns : List ℤ} {ss ps ps' ms : List ℕ} (x : List ℕ) {h k w : ℕ} → k ≡ c .strings → h ≡ length x → w ≡ spanWord (record { start = c .chars; size = h }) → ps' ≡ sets ps (c .chars) x
     → Does n (newStr x) c (lent is ns ss ps ms) (lent is ns (set ss k w) ps' ms) (c .strings) (plus-string h c)
 stored x e q w f = rw (e, f) (lettered x q w)
+
+-- ---- what a thin step's contract comes to: counters, table and answer are known by equations
+
+module _ {c z : Counters} where
+  pub emit-spent : z ≡ plus-instr c → Spent c z 1 0 0 0 0
+  emit-spent e = rw e (record { at = refl; numbers = omega arith; values = omega arith; strings = omega arith; chars = omega arith })
+
+  pub emit-does : {is is' : List ℕ} {w : ℕ} → is' ≡ set is (c .at) w → z ≡ plus-instr c → (i : Instruction) → w ≡ wordTo (c .err .0) i → DoesCode (emit i) c is is' 0 z
+  emit-does f e i q = rw (f, e) (record { does = emitted i q })
+
+  pub num-spent : z ≡ plus-number c → Spent c z 0 1 0 0 0
+  num-spent e = rw e (record { at = omega arith; numbers = omega arith; values = omega arith; strings = omega arith; chars = omega arith })
+
+  pub num-does : {ns ns' : List ℤ} {v : ℕ} (x : ℤ) → v ≡ c .numbers → ns' ≡ set ns (c .numbers) x → z ≡ plus-number c → DoesNums (newNum x) c ns ns' v z
+  num-does x q f e = rw (q, f, e) (record { does = numbered x })
+
+  pub val-spent : z ≡ plus-value c → Spent c z 0 0 1 0 0
+  val-spent e = rw e (record { at = omega arith; numbers = omega arith; values = omega arith; strings = omega arith; chars = omega arith })
+
+  pub val-does : {v : ℕ} → v ≡ c .values → z ≡ plus-value c → DoesNone newVal c v z
+  val-does q e = rw (q, e) (record { does = valued })

@@ -1,3 +1,4 @@
 pub mod Lists
 pub mod Laws
 pub mod Forms
+pub mod Loan

@@ -7,6 +7,22 @@ use Rattle.rules.specs.Tree.{And, Or, Add, Sub, Mul, Div, Mod, Pow, Eq, Ne, Le,
 use Rattle.rules.specs.Tree.{Neg, Not, Abs, Sqrt, Fact, Sin, Cos, Tan, Asin, Acos, Atan}
 use Rattle.codegen.specs.declared.state.Counters.{Counters}
 
+-- ---- counters with one more
+
+abbrev pub plus-instr : Counters → Counters
+plus-instr c = record { at = c .at + 1; numbers = c .numbers; strings = c .strings; chars = c .chars; values = c .values; err = c .err }
+
+abbrev pub plus-number : Counters → Counters
+plus-number c = record { at = c .at; numbers = c .numbers + 1; strings = c .strings; chars = c .chars; values = c .values; err = c .err }
+
+abbrev pub plus-value : Counters → Counters
+plus-value c = record { at = c .at; numbers = c .numbers; strings = c .strings; chars = c .chars; values = c .values + 1; err = c .err }
+
+abbrev pub plus-string : ℕ → Counters → Counters
+plus-string h c = record { at = c .at; numbers = c .numbers; strings = c .strings + 1; chars = c .chars + h; values = c .values; err = c .err }
+
+-- ---- how far they go
+
 -- i instructions, at most n numbers and v values, s strings of h characters
 pub record Spent (c c' : Counters) (i n v s h : ℕ) : Type 0 where
   pub at : c' .at ≡ c .at + i

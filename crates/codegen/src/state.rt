@@ -1,15 +1,16 @@
 // The counters of lowering, and the steps that change one lent table: an instruction, a number, a value register, a name's register.
 //
 // Each step is shown to do what the step of its name in `rules` (CodegenData, Operators) does. A caller owes room in the table, and
-// counts below 65,535.
+// counts below 65,535. The counters are lent to the thin functions `emit_at`, `take_num` and `take_val`, which change them in their place
+// and are proved by hand; `emit`, `new_num` and `new_val` pass them by value, so that whoever calls these has no proof by hand.
 ghost use mathlib.Core.Path.{_≡_};
-ghost use Prim.Native.Nat.{ℕ, _<_};
-ghost use lib.ListN.{length};
+ghost use Prim.Native.Nat.{ℕ, _+_, _<_};
+ghost use lib.ListN.{length, set};
 ghost use Rattle.rules.specs.Instr.{Instruction as Ins};
 ghost use Rattle.rules.specs.CodegenData.{emit as emitS, newNum, newVal};
 ghost use Rattle.rules.specs.Operators.{errorJump, getVariable};
 ghost use Rattle.codegen.specs.Does.{wordTo, DoesNone, DoesCode, DoesNums, DoesNames};
-ghost use Rattle.codegen.specs.Costs.{Spent};
+ghost use Rattle.codegen.specs.Costs.{Spent, plus-instr, plus-number, plus-value};
 use words::instr::Instruction;
 use words::instr::NumReg;
 use words::instr::Section;
@@ -52,16 +53,63 @@ pub fn index(n: u16) -> usize
     n as usize
 }
 
+// A word at a place, which is answered with one more: what the thin functions leave to the checker.
+fn put_instr(instrs: &mut [u64], n: usize, w: Instruction) -> usize
+    requires { ⌜ n < length (now instrs) ⌝ }
+    ensures { λ r. ⌜ (now (instrs .exit) ≡ set (now (instrs .entry)) n (w .0)) × (r ≡ n + 1) ⌝ }
+{
+    instrs[n] = w.0;
+    n + 1
+}
+
+fn put_num(numbers: &mut [i64], n: u16, z: i64) -> u16
+    requires { ⌜ (n < length (now numbers)) × (n < 65535) ⌝ }
+    ensures { λ r. ⌜ (now (numbers .exit) ≡ set (now (numbers .entry)) n z) × (r ≡ n + 1) ⌝ }
+{
+    let i = index(n);
+    numbers[i] = z;
+    n + 1
+}
+
+// An instruction behind the others, in lent counters.
+pub fn emit_at(instrs: &mut [u64], c: &mut Counters, w: Instruction)
+    requires { ⌜ now c .at < length (now instrs) ⌝ }
+    ensures { λ _. ⌜ (now (instrs .exit) ≡ set (now (instrs .entry)) (now (c .entry) .at) (w .0)) × (now (c .exit) ≡ plus-instr (now (c .entry))) ⌝ }
+{
+    let n = c.at;
+    let k = put_instr(instrs, n, w);
+    c.at = k;
+}
+
+// A number register that starts as z, in lent counters.
+pub fn take_num(numbers: &mut [i64], c: &mut Counters, z: i64) -> NumReg
+    requires { ⌜ (now c .numbers < length (now numbers)) × (now c .numbers < 65535) ⌝ }
+    ensures { λ r. ⌜ (r .0 ≡ now (c .entry) .numbers) × (now (numbers .exit) ≡ set (now (numbers .entry)) (now (c .entry) .numbers) z) × (now (c .exit) ≡ plus-number (now (c .entry))) ⌝ }
+{
+    let n = c.numbers;
+    let k = put_num(numbers, n, z);
+    c.numbers = k;
+    NumReg(n)
+}
+
+// A value register, in lent counters.
+pub fn take_val(c: &mut Counters) -> ValReg
+    requires { ⌜ now c .values < 65535 ⌝ }
+    ensures { λ r. ⌜ (r .0 ≡ now (c .entry) .values) × (now (c .exit) ≡ plus-value (now (c .entry))) ⌝ }
+{
+    let v = c.values;
+    c.values = v + 1;
+    ValReg(v)
+}
+
 // An instruction behind the others.
 pub fn emit(instrs: &mut [u64], c: Counters, w: Instruction) -> Counters
     requires { ⌜ c .at < length (now instrs) ⌝ }
     ensures spent { λ r. ⌜ Spent c r 1 0 0 0 0 ⌝ }
     ensures does { λ r. ⌜ ((i : Ins) → w .0 ≡ wordTo (c .err .0) i → DoesCode (emitS i) c (now (instrs .entry)) (now (instrs .exit)) 0 r) ⌝ }
 {
-    let n = c.at;
-    instrs[n] = w.0;
     let mut d = c;
-    d.at = n + 1;
+    emit_at(instrs, &mut d, w);
     d
 }
 
@@ -71,15 +119,9 @@ pub fn new_num(numbers: &mut [i64], c: Counters, z: i64) -> GotNum
     ensures spent { λ r. ⌜ Spent c (r .next) 0 1 0 0 0 ⌝ }
     ensures does { λ r. ⌜ DoesNums (newNum z) c (now (numbers .entry)) (now (numbers .exit)) (r .reg .0) (r .next) ⌝ }
 {
-    let n = c.numbers;
-    let i = index(n);
-    numbers[i] = z;
     let mut d = c;
-    d.numbers = n + 1;
-    GotNum {
-        reg: NumReg(n),
-        next: d,
-    }
+    let reg = take_num(numbers, &mut d, z);
+    GotNum { reg, next: d }
 }
 
 // A value register.
@@ -88,13 +130,9 @@ pub fn new_val(c: Counters) -> GotVal
     ensures spent { λ r. ⌜ Spent c (r .next) 0 0 1 0 0 ⌝ }
     ensures does { λ r. ⌜ DoesNone newVal c (r .reg .0) (r .next) ⌝ }
 {
-    let v = c.values;
     let mut d = c;
-    d.values = v + 1;
-    GotVal {
-        reg: ValReg(v),
-        next: d,
-    }
+    let reg = take_val(&mut d);
+    GotVal { reg, next: d }
 }
 
 // A name's value register: a new one where it is met for the first time.
