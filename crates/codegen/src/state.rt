@@ -1,8 +1,9 @@
 // The counters of lowering, and the steps that change one lent table: an instruction, a number, a value register, a name's register.
 //
 // Each step is shown to do what the step of its name in `rules` (CodegenData, Operators) does. A caller owes room in the table, and
-// counts below 65,535. The counters are lent to the thin functions `emit_at`, `take_num` and `take_val`, which change them in their place
-// and are proved by hand; `emit`, `new_num` and `new_val` pass them by value, so that whoever calls these has no proof by hand.
+// counts below 65,535. The counters are lent to the thin functions `emit_at`, `jmperr_at`, `take_num` and `take_val`, which change them
+// in their place and are proved by hand; `emit`, `add_jmperr`, `new_num` and `new_val` pass them by value, so that whoever calls these has
+// no proof by hand.
 ghost use mathlib.Core.Path.{_≡_};
 ghost use Prim.Native.Nat.{ℕ, _+_, _<_};
 ghost use lib.ListN.{length, set};
@@ -62,6 +63,13 @@ fn put_instr(instrs: &mut [u64], n: usize, w: Instruction) -> usize
     n + 1
 }
 
+fn put_jmperr(instrs: &mut [u64], n: usize, e: Section) -> usize
+    requires { ⌜ n < length (now instrs) ⌝ }
+    ensures { λ r. ⌜ (now (instrs .exit) ≡ set (now (instrs .entry)) n (wordTo (e .0) errorJump)) × (r ≡ n + 1) ⌝ }
+{
+    put_instr(instrs, n, Instruction::jump_if_error(e))
+}
+
 fn put_num(numbers: &mut [i64], n: u16, z: i64) -> u16
     requires { ⌜ (n < length (now numbers)) × (n < 65535) ⌝ }
     ensures { λ r. ⌜ (now (numbers .exit) ≡ set (now (numbers .entry)) n z) × (r ≡ n + 1) ⌝ }
@@ -78,6 +86,17 @@ pub fn emit_at(instrs: &mut [u64], c: &mut Counters, w: Instruction)
 {
     let n = c.at;
     let k = put_instr(instrs, n, w);
+    c.at = k;
+}
+
+// An error jump, to the next line, in lent counters.
+pub fn jmperr_at(instrs: &mut [u64], c: &mut Counters)
+    requires { ⌜ now c .at < length (now instrs) ⌝ }
+    ensures { λ _. ⌜ (now (instrs .exit) ≡ set (now (instrs .entry)) (now (c .entry) .at) (wordTo (now (c .entry) .err .0) errorJump)) × (now (c .exit) ≡ plus-instr (now (c .entry))) ⌝ }
+{
+    let n = c.at;
+    let e = c.err;
+    let k = put_jmperr(instrs, n, e);
     c.at = k;
 }
 
@@ -164,5 +183,7 @@ pub fn add_jmperr(instrs: &mut [u64], c: Counters) -> Counters
     ensures spent { λ r. ⌜ Spent c r 1 0 0 0 0 ⌝ }
     ensures does { λ r. ⌜ DoesCode (emitS errorJump) c (now (instrs .entry)) (now (instrs .exit)) 0 r ⌝ }
 {
-    emit(instrs, c, Instruction::jump_if_error(c.err))
+    let mut d = c;
+    jmperr_at(instrs, &mut d);
+    d
 }
