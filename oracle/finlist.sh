@@ -1,14 +1,22 @@
 #!/usr/bin/env bash
 # The program finlist beside the judge's: what both print for files, compared byte for byte.
-# Usage: oracle/finlist.sh [SEED [TREES [DAMAGED]]], behind `rt check finlist`, which builds target/bin/finlist (FINLIST names another program).
+# Usage: oracle/finlist.sh record > crates/replay_finlist/stdin, which writes the judge's answers for the named files and for generated ones; or
+# oracle/finlist.sh [SEED [TREES [DAMAGED]]], behind `rt check finlist`, which builds target/bin/finlist (FINLIST names another program).
 # The named files are spelled here, field by field, as width:value; the others are generated. Exit status 1 where one differs, or where a named
 # file is not refused by the number that stands before it (0: it is not refused).
 set -euo pipefail
 here=$(cd "$(dirname "$0")" && pwd)
 program=${FINLIST:-$here/../target/bin/finlist}
+recording=
+if [ "${1:-}" = record ]; then
+    recording=1
+    set -- 3 60 40
+fi
 seed=${1:-1}
 trees=${2:-300}
 damaged=${3:-300}
+largest=8192
+[ -z "$recording" ] || largest=400
 
 (cd "$here" && cargo build --release --quiet --offline)
 oracle=$here/target/release/oracle
@@ -19,11 +27,21 @@ file=$scratch/file
 files=0
 wrong=0
 
+# A recorded line: the file in hexadecimal, `;`, what the judge prints with `/` for each line feed. The program that replays it has room for 8,193 bytes.
+record() {
+    [ "$(stat -c %s "$file")" -le 8193 ] || return 0
+    echo "$(od -An -v -tx1 "$file" | tr -d ' \n');$(tr '\n' '/' < "$scratch/judge")"
+}
+
 # Both programs on the file.
 compare() {
     files=$((files + 1))
-    "$program" < "$file" > "$scratch/own"
     "$oracle" finlist < "$file" > "$scratch/judge"
+    if [ -n "$recording" ]; then
+        record
+        return
+    fi
+    "$program" < "$file" > "$scratch/own"
     if ! cmp -s "$scratch/own" "$scratch/judge"; then
         wrong=$((wrong + 1))
         echo "WRONG $1"
@@ -121,12 +139,12 @@ held 10 "8,193 bytes"
 head -c 40000 /dev/zero > "$file"
 held 10 "40,000 bytes"
 
-"$oracle" generate trees "$seed" "$trees" 8192 > "$scratch/trees"
-"$oracle" generate damaged "$seed" "$damaged" 8192 > "$scratch/damaged"
+"$oracle" generate trees "$seed" "$trees" "$largest" > "$scratch/trees"
+"$oracle" generate damaged "$seed" "$damaged" "$largest" > "$scratch/damaged"
 while read -r hex; do
     spell "$hex"
     compare "$hex"
 done < <(cat "$scratch/trees" "$scratch/damaged")
 
-echo "$files files, $wrong differ"
+[ -n "$recording" ] || echo "$files files, $wrong differ"
 [ "$wrong" -eq 0 ]
