@@ -102,12 +102,6 @@ unfolding beginR
 begin-then w zero h g k = absurd (h refl)
 begin-then w (suc d) h g k = then _ g k
 
-pub begun : (s : List ℕ) (w more d : ℕ) (c e : Cursor) → (d ≡ 0 → ⊥) → c .nodes < mostNodes → e .pos ≡ c .pos → Moved 1 more c e → (r : Step) → Takes (bits w) s e 0 0 (2 ^ w) r → Takes (beginR w d) s c 1 more (2 ^ w) r
-begun s w more d c e z h p m (Next v f) u =
-    let t = u .here in
-    record { here = record { reads = begin-then w d z (begins s (at c) h) (rw (← p, ← add-one (c .nodes), ← m .nodes) (t .reads)); small = t .small; moved = omega arith; fine = t .fine } }
-begun s w more d c e z h p m (Refused k) t = record { here = begin-then w d z (begins s (at c) h) (rw (← p, ← add-one (c .nodes), ← m .nodes) (t .here)) }
-
 -- a node that began was not too deep
 pub not-deep : (w d : ℕ) {s : List ℕ} {c c1 : At} {v : ℕ} → Gives (beginR w d) s c (ok (v, c1)) → 0 < d
 not-deep w zero g = absurd (never (unique g (begin-deep w 0 refl)))
@@ -274,3 +268,32 @@ after w {s} {v} {p} {q} {n} {m} g =
     let h = spells g .inside in
     let e = inject (unique g (bits-in s w c _ _ (sym (field-in s w p h)))) in
     ap (λ (x : ℕ × At). x .1 .pos) e
+
+-- ---- bits are the same however many nodes were counted
+
+recount : (w : ℕ) {s : List ℕ} {v p q n m : ℕ} (k : ℕ) → Gives (bits w) s (record { pos = p; nodes = n }) (ok (v, record { pos = q; nodes = m })) → Gives (bits w) s (record { pos = p; nodes = k }) (ok (v, record { pos = q; nodes = k }))
+recount w {s} {v} {p} k g =
+    let h = spells g in
+    rw (h .is, after w g) (bits-in s w (record { pos = p; nodes = k }) _ _ (sym (field-in s w p (h .inside))))
+
+recount-out : (w : ℕ) {s : List ℕ} {p n x : ℕ} (k : ℕ) → Gives (bits w) s (record { pos = p; nodes = n }) (refused x) → Gives (bits w) s (record { pos = p; nodes = k }) (refused x)
+recount-out w {s} {p} {n} {x} k g = by (leb (p + w) (byteBits * length s)) refl
+  where
+    by : (b : Bool) → leb (p + w) (byteBits * length s) ≡ b → Gives (bits w) s (record { pos = p; nodes = k }) (refused x)
+    by true h = absurd (never (unique (bits-in s w (record { pos = p; nodes = n }) _ _ (sym (field-in s w p (leb-true _ _ h)))) g))
+    by false h =
+        let out = sym (field-out s w p (leb-false _ _ h)) in
+        let e : x ≡ endsInField = inject-refused (unique g (bits-out s w (record { pos = p; nodes = n }) out)) in
+        rw e (bits-out s w (record { pos = p; nodes = k }) out)
+
+-- a node is counted with the bits of its kind, two at least
+pub begun : {s : List ℕ} {w more d v : ℕ} {c e : Cursor} → (d ≡ 0 → ⊥) → c .nodes < mostNodes → 2 ≤ w → more ≤ 1 → Fine s c → Took (bits w) s c 0 0 (2 ^ w) v e
+    → Took (beginR w d) s c 1 more (2 ^ w) v (record { pos = e .pos; nodes = e .nodes + 1; statements = e .statements + more; sections = e .sections + more; strings = e .strings; chars = e .chars })
+begun {s} {w} {more} {d} {v} {c} {e} z h two one f t =
+    let m = t .moved in
+    let l = after w (t .reads) in
+    let n : e .nodes + 1 ≡ suc (c .nodes) = omega arith in
+    record { reads = rw n (begin-then w d z (begins s (at c) h) (recount w _ (t .reads))); small = t .small; moved = omega arith; fine = omega arith }
+
+pub begun-out : (w d : ℕ) {s : List ℕ} {x : ℕ} {c : At} → (d ≡ 0 → ⊥) → c .nodes < mostNodes → Gives (bits w) s c (refused x) → Gives (beginR w d) s c (refused x)
+begun-out w d {s} {x} {c} z h g = begin-then w d z (begins s c h) (recount-out w _ g)

@@ -27,11 +27,12 @@ pub record Gives {A : Type 0} (r : Reader A) (s : List ℕ) (c : At) (res : Res 
 abbrev pub at : Cursor → At
 at c = record { pos = c .pos; nodes = c .nodes }
 
--- a cursor within the file and the limits, so that no count overflows
+-- a cursor within the file and the limits, so that no count overflows; a node takes two bits at least
 pub record Fine (s : List ℕ) (c : Cursor) : Type 0 where
   pub short : length s ≤ mostBytes
   pub inside : c .pos ≤ byteBits * length s
   pub nodes : c .nodes ≤ mostNodes
+  pub dense : 2 * c .nodes ≤ c .pos
   pub statements : c .statements ≤ c .nodes
   pub sections : c .sections ≤ 4 * c .statements
   pub strings : c .strings ≤ c .nodes

@@ -129,21 +129,24 @@ pub fn below(s: &[u8], c: Cursor, w: usize, limit: u64, number: u64) -> Step
 // A node begins with `depth` levels left, itself among them, and the w bits of its kind: first it must not be too deep, then not one too many.
 // A statement (more is 1) is counted here, with its own section.
 pub fn begin(s: &[u8], c: Cursor, w: usize, more: usize, depth: usize) -> Step
-    requires { ⌜ (Fine (now s) c) × ((w ≤ numberBits) × (more ≤ 1)) ⌝ }
+    requires { ⌜ (Fine (now s) c) × ((2 ≤ w) × (w ≤ numberBits) × (more ≤ 1)) ⌝ }
     ensures { λ r. ⌜ Takes (beginR w depth) (now (s .entry)) c 1 more (2 ^ w) r ⌝ }
 {
-    let n = c.nodes;
     if depth == 0 {
         return Step::Refused(TOO_DEEP);
     }
-    if n >= MOST_NODES {
+    if c.nodes >= MOST_NODES {
         return Step::Refused(TOO_MANY_NODES);
     }
-    let mut d = c;
-    d.nodes = n + 1;
-    d.statements = c.statements + more;
-    d.sections = c.sections + more;
-    take(s, d, w)
+    let r = take(s, c, w);
+    let Step::Next(kind, e) = r else {
+        return r;
+    };
+    let mut d = e;
+    d.nodes = e.nodes + 1;
+    d.statements = e.statements + more;
+    d.sections = e.sections + more;
+    Step::Next(kind, d)
 }
 
 // n characters are there, and are passed over.

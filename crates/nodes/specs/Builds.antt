@@ -1,7 +1,7 @@
 -- What a step that fills the node table gives: it refuses as a reader of rules does, or what that reader reads stands in the table.
 use mathlib.Core.Path.{_≡_}
 use mathlib.Core.List.{List, [], _∷_}
-use Prim.Native.Nat.{ℕ, _+_, _-_, _≤_, _<_}
+use Prim.Native.Nat.{ℕ, _+_, _-_, _*_, _≤_, _<_, min}
 use lib.ListN.{length, getD, set}
 use Rattle.rules.specs.Constants.{mostNodes, listBits, flagBits}
 use Rattle.rules.specs.Refusal.{unassigned}
@@ -95,9 +95,13 @@ ReadsStmt s t t' c n d r = Builds (stmt n d) (heldS s n) countS s t t' c c r
 
 -- ---- what the steps ask
 
+-- the nodes of a file of so many bytes, each of two bits at least, are no more than this
+abbrev pub mostNodesOf : ℕ → ℕ
+mostNodesOf bytes = min mostNodes (4 * bytes)
+
 pub record Ready (s t : List ℕ) (c : Cursor) (n : ℕ) : Type 0 where
   pub fine : Fine s c
-  pub room : mostNodes ≤ length t
+  pub room : mostNodesOf (length s) ≤ length t
   pub names : n < 256
 
 -- node i has begun, and c stands behind its kind

@@ -227,6 +227,7 @@ filed {s = s} {v = v} {c3 = c3} {c4 = c4} {c5 = c5} {c6 = c6} h x y z =
     let q = y .counts in
     let r = z .moved in
     let f = x .fine in
+    let g = z .fine in
     let u = names-length s (v / 256) (c3 .pos) in
     let l = y .many-lines in
     let i : c4 .nodes ≡ 0 = omega arith in
@@ -237,6 +238,7 @@ filed {s = s} {v = v} {c3 = c3} {c4 = c4} {c5 = c5} {c6 = c6} h x y z =
       holds = rw (u, l) (held-at i j (y .holds));
       names = placed s (v / 256) (c3 .pos) (h .place) (rw (← x .place) (f .inside));
       nodes = omega arith;
+      within = omega arith;
       statements = omega arith;
       sections = omega arith;
       strings = omega arith;
@@ -252,7 +254,7 @@ treed {s = s} {v = v} {c = c} f h =
     let m = f .few in
     let a : v % 256 ≡ length (f .val .lines) = omega arith in
     let b : v / 256 ≡ length (f .val .names) = omega arith in
-    record { val = f .val; parses = parse-ok s (f .val) (at c) h (f .reads); holds = f .holds; names = f .names; size-is = rw (a, b, f .statements, f .nodes, f .strings, f .chars) }
+    record { val = f .val; parses = parse-ok s (f .val) (at c) h (f .reads); holds = f .holds; names = f .names; size-is = rw (a, b, f .statements, f .nodes, f .strings, f .chars); within = f .within }
 
 pub head-ok : {s : List ℕ} {v : ℕ} {c : Cursor} {st : Step} → HeadRead s st → st ≡ Next v c → Headed s v c
 head-ok h e = rw e at (h .here)

@@ -14,7 +14,7 @@ use Rattle.bits.specs.declared.Cursor.{Cursor}
 use Rattle.bits.specs.declared.Step.{Step}
 use Rattle.bits.specs.declared.Step.the-variants.{Next, Refused}
 use Rattle.names.specs.Names.{namesAt, endAt}
-use Rattle.nodes.specs.Builds.{Agree, Counted}
+use Rattle.nodes.specs.Builds.{Agree, Counted, mostNodesOf}
 use Rattle.nodes.specs.Width.{width}
 use Rattle.nodes.specs.Holds.{HoldsB}
 use Rattle.tree.specs.declared.Sizes.{Sizes}
@@ -109,6 +109,7 @@ pub record Filed (s t ls : List ℕ) (v : ℕ) (c : Cursor) : Type 0 where
   pub strings : c .strings ≡ ofLines (val .lines) .strings
   pub chars : c .chars ≡ ofLines (val .lines) .characters
   pub few : length (val .lines) < 256
+  pub within : c .nodes ≤ mostNodesOf (length s)
   pub both : v ≡ length (val .lines) + 256 * length (val .names)
 
 abbrev pub FileAt : List ℕ → List ℕ → List ℕ → Step → Type 0
@@ -133,6 +134,7 @@ pub record Treed (s t ls : List ℕ) (z : Sizes) : Type 0 where
   pub holds : HoldsTree s t ls val (z .nodes)
   pub names : Placed s (val .names)
   pub size-is : sized z ≡ sizeOf val
+  pub within : z .nodes ≤ mostNodesOf (length s)
 
 abbrev pub TreeAt : List ℕ → List ℕ → List ℕ → SizeAnswer → Type 0
 TreeAt s t ls (Sized z) = Treed s t ls z

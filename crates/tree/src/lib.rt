@@ -1,15 +1,15 @@
 // A whole file: its tree in lent tables, and its size.
 //
 // `size` is shown equal to `size` of `rules`, and asks nothing. `read_tree` refuses as `parse` does, or the tables hold the tree
-// that `parse` reads; it asks for a node table of 2,048 words and a line table of 255.
+// that `parse` reads; it asks for a line table of 255 words, and for a node table of 2,048 or of as many as the file can have.
 ghost use mathlib.Core.Path.{_≡_};
 ghost use Prim.Native.Nat.{_≤_, _<_, _*_, _+_};
 ghost use lib.ListN.{length};
-ghost use Rattle.rules.specs.Constants.{mostBytes, mostNodes, mostLines};
+ghost use Rattle.rules.specs.Constants.{mostBytes, mostLines};
 ghost use Rattle.rules.specs.Parse.{fill as fillS};
 ghost use Rattle.rules.specs.Operations.{size as sizeS};
 ghost use Rattle.bits.specs.Reads.{Fine, Takes};
-ghost use Rattle.nodes.specs.Builds.{Ready};
+ghost use Rattle.nodes.specs.Builds.{Ready, mostNodesOf};
 ghost use Rattle.tree.specs.Files.{LinesRead, HeadRead, FileRead, TreeRead, sizeRes};
 use bits::Cursor;
 use bits::Step;
@@ -31,6 +31,11 @@ const HEAD_VALUES: u64 = 256;
 
 // A line's word is its count of statements, below this, and its first node.
 pub const LINE_COUNTS: u64 = 64;
+
+// A file of so few bytes is read by a smaller table, which takes less time to clear: a node takes two bits at least.
+pub const SMALL_BYTES: usize = 64;
+
+pub const SMALL_NODES: usize = 256;
 
 // What is counted of a tree.
 pub struct Sizes {
@@ -121,7 +126,7 @@ fn read_head(s: &[u8]) -> Step
 
 // The file, behind the test of its length; answers what its head does.
 fn read_file(s: &[u8], t: &mut [u64], ls: &mut [u64]) -> Step
-    requires { ⌜ (length (now s) ≤ mostBytes) × ((mostNodes ≤ length (now t)) × (mostLines ≤ length (now ls))) ⌝ }
+    requires { ⌜ (length (now s) ≤ mostBytes) × ((mostNodesOf (length (now s)) ≤ length (now t)) × (mostLines ≤ length (now ls))) ⌝ }
     ensures { λ r. ⌜ FileRead (now (s .entry)) (now (t .exit)) (now (ls .exit)) r ⌝ }
 {
     let r = read_head(s);
@@ -147,7 +152,7 @@ fn read_file(s: &[u8], t: &mut [u64], ls: &mut [u64]) -> Step
 
 // The tree of a file in lent tables, and its size; or the number that refuses it.
 pub fn read_tree(s: &[u8], t: &mut [u64], ls: &mut [u64]) -> SizeAnswer
-    requires { ⌜ (mostNodes ≤ length (now t)) × (mostLines ≤ length (now ls)) ⌝ }
+    requires { ⌜ (mostNodesOf (length (now s)) ≤ length (now t)) × (mostLines ≤ length (now ls)) ⌝ }
     ensures { λ r. ⌜ TreeRead (now (s .entry)) (now (t .exit)) (now (ls .exit)) r ⌝ }
 {
     if s.len() > MOST_BYTES {
@@ -167,11 +172,23 @@ pub fn read_tree(s: &[u8], t: &mut [u64], ls: &mut [u64]) -> SizeAnswer
     }
 }
 
+// The size, by a lent node table.
+fn size_in(s: &[u8], t: &mut [u64]) -> SizeAnswer
+    requires { ⌜ mostNodesOf (length (now s)) ≤ length (now t) ⌝ }
+    ensures { λ r. ⌜ sizeRes r ≡ sizeS (now (s .entry)) ⌝ }
+{
+    let mut ls = [0u64; MOST_LINES];
+    read_tree(s, t, &mut ls)
+}
+
 // What a file's tree counts, or the number that refuses it.
 pub fn size(bytes: &[u8]) -> SizeAnswer
     ensures { λ r. ⌜ sizeRes r ≡ sizeS (now (bytes .entry)) ⌝ }
 {
+    if bytes.len() <= SMALL_BYTES {
+        let mut few = [0u64; SMALL_NODES];
+        return size_in(bytes, &mut few);
+    }
     let mut t = [0u64; MOST_NODES];
-    let mut ls = [0u64; MOST_LINES];
-    read_tree(bytes, &mut t, &mut ls)
+    size_in(bytes, &mut t)
 }
