@@ -11,7 +11,7 @@ use lib.Seq.{length-take-le}
 use borrow.Author.Tests.{leb-true}
 use Rattle.rules.specs.Bits.{refused, ok}
 use Rattle.rules.specs.Refusal as Refusal
-use Rattle.rules.specs.Constants.{mostNodes, mostLines, mostCount}
+use Rattle.rules.specs.Constants.{mostLines, mostCount}
 use Rattle.rules.specs.Tree.{Tree, Block, ofLines, both as bothTallies}
 use Rattle.rules.specs.Tree as Tree
 use Rattle.rules.specs.Parse.{parse}
@@ -26,6 +26,7 @@ use Rattle.walks.specs.Bounds.{small, few-lines}
 use Rattle.nodes.proofs.Width.{four}
 use Rattle.tables.proofs.Sound.{both}
 use Rattle.replace.specs.Pass.{Ready, Rewrote}
+use Rattle.nodes.specs.Builds.{mostNodesOf}
 use Rattle.tree.specs.Files.{HoldsTree, Placed, Treed, TreeAt, TreeRead, sized, widths}
 use Rattle.tree.specs.declared.Sizes.{Sizes}
 use Rattle.tree.specs.declared.SizeAnswer.{SizeAnswer}
@@ -92,18 +93,17 @@ module _ {s t ls : List ℕ} {z : Sizes} (h : Treed s t ls z) where
       let n = few-lines (h .val .lines) .statements in
       rw (h .size-is) (record { lines = omega (arith, k .most-lines); statements = omega (arith, n, k .most-nodes); nodes = k .most-nodes })
 
-  pub given : (u : Counts) → u ≡ estimate (sized z) → mostNodes ≤ length t → mostLines ≤ length ls → Given s t ls u
+  pub given : (u : Counts) → u ≡ estimate (sized z) → mostNodesOf (length s) ≤ length t → mostLines ≤ length ls → Given s t ls u
   unfolding sizeOf
   given u e p q =
       let k = limits s (h .val) (h .parses) in
-      let n = ap (λ (y : Size). y .nodes) (h .size-is) in
       record {
         tree = h .val;
         last = z .nodes;
         parses = h .parses;
         held = h .holds;
         placed = h .names;
-        inside = omega (arith, k .most-nodes, n);
+        inside = omega (arith, h .within);
         line-words = omega (arith, k .most-lines);
         estimates = e ∙ ap estimate (h .size-is);
       }

@@ -6,6 +6,9 @@ ghost use Rattle.rules.specs.Bits.{ok};
 ghost use Rattle.rules.specs.Operations as Operations;
 ghost use Rattle.tables.specs.Lent.{countsTold, tables, answerTold};
 ghost use Rattle.program.specs.Program.{optionsTold};
+ghost use Prim.Native.Nat.{_≤_};
+ghost use lib.ListN.{length};
+ghost use Rattle.nodes.specs.Builds.{mostNodesOf};
 ghost use Rattle.lower.specs.Lower.{Given, Roomy, Assembled};
 use crate::room::estimate;
 use crate::room::holds;
@@ -18,6 +21,8 @@ use replace::replace_duplicates::replace_duplicates;
 use tables::answer::Answer;
 use tables::counts::Counts;
 use tables::shift::zero;
+use tree::SMALL_BYTES;
+use tree::SMALL_NODES;
 use tree::SizeAnswer;
 use tree::read_tree;
 
@@ -139,8 +144,10 @@ fn lower_in(
     ))
 }
 
-pub fn lower(
-    tree: &[u8],
+// The tree is read into a lent node table.
+fn lower_by(
+    s: &[u8],
+    nodes: &mut [u64],
     options: CodegenOptions,
     sections: &mut [u64],
     instructions: &mut [u64],
@@ -149,17 +156,17 @@ pub fn lower(
     pool: &mut [u8],
     names: &mut [u16],
 ) -> Answer
-    ensures { λ r. ⌜ (answerTold r, tables (now (sections .exit)) (now (instructions .exit)) (now (numbers .exit)) (now (strings .exit)) (now (pool .exit)) (now (names .exit))) ≡ Operations.lower (optionsTold options) (now (tree .entry)) (tables (now (sections .entry)) (now (instructions .entry)) (now (numbers .entry)) (now (strings .entry)) (now (pool .entry)) (now (names .entry))) ⌝ }
+    requires { ⌜ mostNodesOf (length (now s)) ≤ length (now nodes) ⌝ }
+    ensures { λ r. ⌜ (answerTold r, tables (now (sections .exit)) (now (instructions .exit)) (now (numbers .exit)) (now (strings .exit)) (now (pool .exit)) (now (names .exit))) ≡ Operations.lower (optionsTold options) (now (s .entry)) (tables (now (sections .entry)) (now (instructions .entry)) (now (numbers .entry)) (now (strings .entry)) (now (pool .entry)) (now (names .entry))) ⌝ }
 {
-    let mut nodes = [0u64; MOST_NODES];
     let mut lines = [0u64; MOST_LINES];
-    let r = read_tree(tree, &mut nodes, &mut lines);
+    let r = read_tree(s, nodes, &mut lines);
     match r {
         SizeAnswer::Sized(z) => {
             let room = estimate(z);
             lower_in(
-                tree,
-                &nodes,
+                s,
+                nodes,
                 &lines,
                 options,
                 room,
@@ -173,4 +180,44 @@ pub fn lower(
         }
         SizeAnswer::Refused(n) => Answer::Refused(n),
     }
+}
+
+pub fn lower(
+    tree: &[u8],
+    options: CodegenOptions,
+    sections: &mut [u64],
+    instructions: &mut [u64],
+    numbers: &mut [i64],
+    strings: &mut [u32],
+    pool: &mut [u8],
+    names: &mut [u16],
+) -> Answer
+    ensures { λ r. ⌜ (answerTold r, tables (now (sections .exit)) (now (instructions .exit)) (now (numbers .exit)) (now (strings .exit)) (now (pool .exit)) (now (names .exit))) ≡ Operations.lower (optionsTold options) (now (tree .entry)) (tables (now (sections .entry)) (now (instructions .entry)) (now (numbers .entry)) (now (strings .entry)) (now (pool .entry)) (now (names .entry))) ⌝ }
+{
+    if tree.len() <= SMALL_BYTES {
+        let mut few = [0u64; SMALL_NODES];
+        return lower_by(
+            tree,
+            &mut few,
+            options,
+            sections,
+            instructions,
+            numbers,
+            strings,
+            pool,
+            names,
+        );
+    }
+    let mut nodes = [0u64; MOST_NODES];
+    lower_by(
+        tree,
+        &mut nodes,
+        options,
+        sections,
+        instructions,
+        numbers,
+        strings,
+        pool,
+        names,
+    )
 }
