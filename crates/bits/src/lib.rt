@@ -43,45 +43,47 @@ pub enum Step {
 }
 
 fn wide(x: u8) -> u64
-    ensures { λ r. ⌜ r ≡ x ⌝ }
+    ensures { λ r. ⌜ (r ≡ x) × (r < 2 ^ byteBits) ⌝ }
 {
     x as u64
 }
 
-// How many of the w bits at p lie in the byte where p stands.
-fn chunk(p: usize, w: usize) -> usize
-    requires { ⌜ 0 < w ⌝ }
-    ensures { λ r. ⌜ (0 < r) × (r ≤ w) × (p % byteBits + r ≤ byteBits) ⌝ }
+// The byte behind byte i of n; the last stands in for the one behind it.
+fn behind(i: usize, n: usize) -> usize
+    requires { ⌜ i < n ⌝ }
+    ensures { λ r. ⌜ (r < n) × (i + 1 < n → r ≡ i + 1) ⌝ }
 {
-    let room = BYTE_BITS - p % BYTE_BITS;
-    if w < room {
-        return w;
-    }
-    room
+    if n - i > 1 { i + 1 } else { i }
 }
 
-// The number that n bits within one byte spell.
-fn part(s: &[u8], p: usize, n: usize) -> u64
-    requires { ⌜ (0 < n) × (p % byteBits + n ≤ byteBits) × (p + n ≤ byteBits * length (now s)) ⌝ }
+// The number that n bits spell, which lie in the byte where they begin and the one behind it. Where they end in the first, the other is shifted
+// out. No branch depends on where they lie.
+fn window(s: &[u8], p: usize, n: usize) -> u64
+    requires { ⌜ (0 < n) × (n ≤ byteBits) × (p + n ≤ byteBits * length (now s)) × (length (now s) ≤ mostBytes) ⌝ }
     ensures { λ r. ⌜ r ≡ spelled (now (s .entry)) n p ⌝ }
 {
-    let low = BYTE_BITS - p % BYTE_BITS - n;
-    (wide(s[p / BYTE_BITS]) >> low) & ((1 << n) - 1)
+    let i = p / BYTE_BITS;
+    let j = behind(i, s.len());
+    let both = (wide(s[i]) << BYTE_BITS) + wide(s[j]);
+    (both >> (2 * BYTE_BITS - p % BYTE_BITS - n)) & ((1 << n) - 1)
 }
 
-// The number that the w bits at a position spell, where they are: byte by byte.
+// The number that the w bits at a position spell, where they are: eight at a time, then the others.
 pub fn peek(s: &[u8], at: usize, w: usize) -> u64
     requires { ⌜ (length (now s) ≤ mostBytes) × ((w ≤ numberBits) × (at + w ≤ byteBits * length (now s))) ⌝ }
     ensures { λ r. ⌜ r ≡ spelled (now (s .entry)) w at ⌝ }
 {
     let mut v: u64 = 0;
     let mut k: usize = 0;
-    while k < w {
-        let n = chunk(at + k, w - k);
-        v = (v << n) + part(s, at + k, n);
-        k += n;
+    while k + BYTE_BITS <= w {
+        v = (v << BYTE_BITS) + window(s, at + k, BYTE_BITS);
+        k += BYTE_BITS;
     }
-    v
+    let n = w - k;
+    if n == 0 {
+        return v;
+    }
+    (v << n) + window(s, at + k, n)
 }
 
 pub fn read_field(s: &[u8], at: usize, w: usize) -> Field
