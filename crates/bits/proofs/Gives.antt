@@ -13,7 +13,7 @@ use Rattle.rules.specs.Constants.{mostNodes, byteBits, charBits, nameBits}
 use Rattle.rules.specs.Refusal.{endsInField, tooDeep, tooManyNodes, unassigned, unknownName}
 use Rattle.rules.specs.Bits.{Res, refused, ok, field, spelled}
 use Rattle.rules.specs.Parse.{Reader, At, pure, refuse, demand, begin, bits, many, operator, nameOf, _>>=_}
-use Rattle.bits.specs.Reads.{Gives, Fine, Moved, Took, Takes, Skips, Skipped, at, belowR, beginR, fieldRes, charsAt}
+use Rattle.bits.specs.Reads.{Gives, Fine, Moved, Took, Takes, Passed, Passes, Ends, Skips, Skipped, at, belowR, beginR, fieldRes, charsAt}
 use Rattle.bits.specs.declared.Field.{Field}
 use Rattle.bits.specs.declared.Field.the-variants.{Value, Short}
 use Rattle.bits.specs.declared.Cursor.{Cursor}
@@ -297,3 +297,30 @@ begun {s} {w} {more} {d} {v} {c} {e} z h two one f t =
 
 pub begun-out : (w d : ℕ) {s : List ℕ} {x : ℕ} {c : At} → (d ≡ 0 → ⊥) → c .nodes < mostNodes → Gives (bits w) s c (refused x) → Gives (beginR w d) s c (refused x)
 begun-out w d {s} {x} {c} z h g = begin-then w d z (begins s c h) (recount-out w _ g)
+
+-- ---- bits that are passed over
+
+pub passed : {s : List ℕ} {c d : Cursor} {w v : ℕ} {st : Step} → Passes w s c st → st ≡ Next v d → Passed w s c d
+passed h e = rw e at (h .here)
+
+pub not-passed : {s : List ℕ} {c : Cursor} {w x : ℕ} {st : Step} → Passes w s c st → st ≡ Refused x → Ends w s c x
+not-passed h e = rw e at (h .here)
+
+-- as a field
+pub pass-bits : {s : List ℕ} {c d : Cursor} {w : ℕ} → Passed w s c d → Gives (bits w) s (at c) (ok (spelled s w (c .pos), at d))
+pass-bits {s} {c} {d} {w} h =
+    let m = h .moved in
+    let n : d .nodes ≡ c .nodes = omega arith in
+    rw (h .place, n) (bits-in s w (at c) _ _ (sym (field-in s w (c .pos) (h .inside))))
+
+pub ends-bits : {s : List ℕ} {c : Cursor} {w x : ℕ} → Ends w s c x → Gives (bits w) s (at c) (refused x)
+ends-bits {s} {c} {w} h = rw (h .is) (bits-out s w (at c) (sym (field-out s w (c .pos) (h .outside))))
+
+-- as characters
+pub pass-chars : (n : ℕ) {s : List ℕ} {c : Cursor} (st : Step) → Fine s c → Passes (charBits * n) s c st → Skips n s c st
+pass-chars n {s} {c} (Next v d) f p =
+    let h = p .here in
+    let m = h .moved in
+    let k : d .nodes ≡ c .nodes = omega arith in
+    record { here = record { reads = rw (h .place, k) (chars-in n s (c .pos) (c .nodes) (h .inside)); place = h .place; moved = m; fine = h .fine } }
+pass-chars n {s} {c} (Refused x) f p = let h = p .here in record { here = rw (h .is) (chars-out n s (c .pos) (c .nodes) (f .inside) (h .outside)) }

@@ -11,7 +11,7 @@ ghost use lib.ListN.{length};
 ghost use Rattle.rules.specs.Constants.{mostBytes, byteBits, numberBits};
 ghost use Rattle.rules.specs.Bits.{field, spelled};
 ghost use Rattle.rules.specs.Parse.{bits};
-ghost use Rattle.bits.specs.Reads.{fieldRes, Fine, Takes, Skips, belowR, beginR};
+ghost use Rattle.bits.specs.Reads.{fieldRes, Fine, Takes, Passes, Skips, belowR, beginR};
 use limits::BYTE_BITS;
 use limits::CHAR_BITS;
 use limits::MOST_NODES;
@@ -151,17 +151,23 @@ pub fn begin(s: &[u8], c: Cursor, w: usize, more: usize, depth: usize) -> Step
     Step::Next(kind, d)
 }
 
+// w bits are there, and are passed over.
+pub fn pass(s: &[u8], c: Cursor, w: usize) -> Step
+    requires { ⌜ (Fine (now s) c) × (w ≤ 1024) ⌝ }
+    ensures { λ r. ⌜ Passes w (now (s .entry)) c r ⌝ }
+{
+    if s.len() * BYTE_BITS - c.pos < w {
+        return Step::Refused(ENDS_IN_FIELD);
+    }
+    let mut d = c;
+    d.pos = c.pos + w;
+    Step::Next(0, d)
+}
+
 // n characters are there, and are passed over.
 pub fn skip(s: &[u8], c: Cursor, n: usize) -> Step
     requires { ⌜ (Fine (now s) c) × (n ≤ 128) ⌝ }
     ensures { λ r. ⌜ Skips n (now (s .entry)) c r ⌝ }
 {
-    let bits = s.len() * BYTE_BITS;
-    let p = c.pos;
-    if bits - p < CHAR_BITS * n {
-        return Step::Refused(ENDS_IN_FIELD);
-    }
-    let mut d = c;
-    d.pos = p + CHAR_BITS * n;
-    Step::Next(0, d)
+    pass(s, c, CHAR_BITS * n)
 }

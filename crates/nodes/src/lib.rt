@@ -124,7 +124,7 @@ fn number(s: &[u8], t: &mut [u64], c: Cursor, names: u64, i: usize) -> Step
     requires { ⌜ Begun (now s) (now t) c names i ⌝ }
     ensures { λ r. ⌜ Builds numberOf (heldE (now (s .entry)) names) countE (now (s .entry)) (now (t .entry)) (now (t .exit)) (before i c) c r ⌝ }
 {
-    let r = bits::take(s, c, NUMBER_BITS);
+    let r = bits::pass(s, c, NUMBER_BITS);
     let Step::Next(_, d) = r else {
         return r;
     };
