@@ -29,10 +29,10 @@ use Rattle.codegen.specs.Does.{Lent}
 use Rattle.codegen.proofs.Lists.{map-append, length-map}
 use Rattle.stmts.specs.Makes.{Regs}
 use Rattle.stmts.proofs.Lists.{all-append, runs-append, runs-length, made-width}
-use Rattle.program.specs.Costs.{ownCost}
-use Rattle.program.specs.Lines.{innerNodes, Parted, LineSpent, LineWent, LineDone}
+use Rattle.line.specs.Costs.{ownCost}
+use Rattle.line.specs.Lines.{innerNodes, Parted, LineSpent, LineWent, LineDone}
 use Rattle.program.specs.Script.{ownCosts, innerAll, aimedAt, LinesWent, LinesDone}
-use Rattle.program.proofs.Parts.{own-most}
+use Rattle.line.proofs.Parts.{own-most}
 use Rattle.program.proofs.Runs.{two-runs}
 
 -- ---- the line behind a line

@@ -30,7 +30,7 @@ use Rattle.codegen.specs.Does.{Lent, lent, regWord}
 use Rattle.codegen.proofs.Lists.{sets-start, map-append, length-map}
 use Rattle.stmts.specs.Makes.{Regs}
 use Rattle.stmts.proofs.Lists.{all-append, runs-append, runs-length, made-width}
-use Rattle.program.specs.Lines.{Parted}
+use Rattle.line.specs.Lines.{Parted}
 use Rattle.program.specs.Script.{ownCosts, LinesWent, LinesDone}
 use Rattle.program.specs.Program.{over, Laid}
 use Rattle.program.proofs.Script.{script-length}

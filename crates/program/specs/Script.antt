@@ -15,8 +15,8 @@ use Rattle.words.specs.declared.instr.Section.{Section}
 use Rattle.codegen.specs.Does.{Lent}
 use Rattle.stmts.specs.Makes.{Regs, placed}
 use Rattle.stmts.specs.Lists.{Ample}
-use Rattle.program.specs.Costs.{ownCost}
-use Rattle.program.specs.Lines.{innerNodes, Parted, LineSpent}
+use Rattle.line.specs.Costs.{ownCost}
+use Rattle.line.specs.Lines.{innerNodes, Parted, LineSpent}
 
 -- the own instructions of the lines' first statements, and the nodes behind those
 unfoldable pub ownCosts : List Block → ℕ

@@ -1,6 +1,4 @@
-// Lowering of a whole tree: how many instructions the first sections take, a line, all lines, the words of names, the whole.
-pub mod heads;
-pub mod line;
+// Lowering of a whole tree: all lines, the words of names, the whole.
 pub mod lines;
 pub mod name_words;
 pub mod options;

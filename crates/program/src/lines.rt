@@ -13,11 +13,11 @@ ghost use Rattle.rules.specs.Assemble.{nextLine};
 ghost use Rattle.tree.specs.Files.{HoldsL};
 ghost use Rattle.codegen.specs.Does.{lent};
 ghost use Rattle.program.specs.Script.{ownCosts, aimedAt, LinesAt, LinesReady, LinesDone};
-use crate::heads::own_cost;
-use crate::line::LineEnd;
-use crate::line::codegen_from_line;
 use bits::limits::MOST_NODES;
 use codegen::state::Counters;
+use line::heads::own_cost;
+use line::line::LineEnd;
+use line::line::codegen_from_line;
 use tree::LINE_COUNTS;
 use words::instr::Section;
 

@@ -1,5 +1,5 @@
 use Rattle.program.proofs.Script.{lines-count, line-held, no-lines, lines-sum, lines-none, lines-more}
-use Rattle.program.proofs.Parts.{own-most}
+use Rattle.line.proofs.Parts.{own-most}
 use Rattle.program.proofs.Runs.{deep-nodes}
 use Rattle.codegen.specs.declared.state.Counters.{Counters}
 use native.Mathlib.Omega.{arith}
@@ -12,7 +12,7 @@ use borrow.Fn.PlainCycle.{Measures, is, falls, and}
 use Rattle.program.proofs.lines.codegen_from_lines.Reads as codegen-from-lines
 use Rattle.program.proofs.lines.codegen_from_lines.Kinds as codegen-from-lines-kinds
 use Rattle.program.proofs.lines.+codegen_from_lines.Lts-codegen_from_lines as codegen-from-lines-lts
-use Rattle.program.proofs.line.codegen_from_line.Reads as codegen-from-line-reads
+use Rattle.line.proofs.line.codegen_from_line.Reads as codegen-from-line-reads
 use Rattle.program.proofs.lines.aimed_at.Reads as aimed-at-reads
 use Rattle.program.proofs.lines.next_line.Reads as next-line-reads
 use Rattle.program.proofs.lines.+codegen_from_lines.{statement}

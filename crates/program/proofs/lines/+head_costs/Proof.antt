@@ -1,5 +1,5 @@
 use Rattle.program.proofs.Script.{lines-count, line-held, no-lines, lines-sum, owns-most}
-use Rattle.program.specs.Costs.{ownCost}
+use Rattle.line.specs.Costs.{ownCost}
 use Rattle.program.specs.Script.{ownCosts}
 use Rattle.stmts.proofs.Places.{some-of}
 use Rattle.nodes.proofs.Blocks.{is-end}
@@ -13,7 +13,7 @@ use borrow.Fn.PlainCycle.{Measures, is, falls, and}
 use Rattle.program.proofs.lines.head_costs.Reads as head-costs
 use Rattle.program.proofs.lines.head_costs.Kinds as head-costs-kinds
 use Rattle.program.proofs.lines.+head_costs.Lts-head_costs as head-costs-lts
-use Rattle.program.proofs.heads.own_cost.Reads as own-cost-reads
+use Rattle.line.proofs.heads.own_cost.Reads as own-cost-reads
 use Rattle.program.proofs.lines.+head_costs.{statement}
 use Rattle.program.proofs.lines.+head_costs.Tie.{close}
 

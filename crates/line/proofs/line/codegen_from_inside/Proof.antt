@@ -1,5 +1,5 @@
-use Rattle.program.proofs.Parts.{inside-none, inside-ite, none-inside, ite-inside}
-use Rattle.program.specs.Lines.{insideTally}
+use Rattle.line.proofs.Parts.{inside-none, inside-ite, none-inside, ite-inside}
+use Rattle.line.specs.Lines.{insideTally}
 use Rattle.stmts.proofs.Places.{ite-at, ite-sum}
 use Rattle.stmts.proofs.Splits.{split}
 use Rattle.nodes.proofs.Blocks.{tag, kind-held}
@@ -11,10 +11,10 @@ use native.Mathlib.Numerals.{add-one}
 use Prim.Native.Nat.{ℕ, _+_, _/_, _%_}
 use mathlib.Core.Path.{_≡_, ap, _∙_}
 use borrow.Author.Needs.{needs}
-use Rattle.program.proofs.line.codegen_from_inside.Statement.{statement}
-use Rattle.program.proofs.line.codegen_from_inside.Tie as tie
-use Rattle.program.proofs.line.codegen_from_inside.Reads as reads
-use Rattle.program.proofs.line.codegen_from_inside.Lts as lts
+use Rattle.line.proofs.line.codegen_from_inside.Statement.{statement}
+use Rattle.line.proofs.line.codegen_from_inside.Tie as tie
+use Rattle.line.proofs.line.codegen_from_inside.Reads as reads
+use Rattle.line.proofs.line.codegen_from_inside.Lts as lts
 use Rattle.stmts.proofs.stmt.codegen_from_lists.Reads as codegen-from-lists-reads
 
 -- src/line.rt:160:13

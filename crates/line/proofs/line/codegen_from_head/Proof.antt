@@ -1,4 +1,4 @@
-use Rattle.program.proofs.Firsts.{headed-goto, headed-step, headed-assign, headed-ite}
+use Rattle.line.proofs.Firsts.{headed-goto, headed-step, headed-assign, headed-ite}
 use Rattle.stmts.proofs.Places.{goto-at, step-at, assign-at, ite-at, else-ite, ite-sum, goto-sum, assign-sum, step-sum, empty-same}
 use Rattle.stmts.proofs.Splits.{split}
 use Rattle.rules.specs.Bits.{isOne}
@@ -7,8 +7,8 @@ use Rattle.exprs.proofs.Trees.{expr-most}
 use Rattle.stmts.specs.Makes.{jumpCost}
 use Rattle.stmts.specs.Lists.{isEnd}
 use Rattle.stmts.proofs.Makes.{assign-most, jump-cost-most}
-use Rattle.program.specs.Costs.{ownCost}
-use Rattle.program.specs.Lines.{bare}
+use Rattle.line.specs.Costs.{ownCost}
+use Rattle.line.specs.Lines.{bare}
 use mathlib.Core.Bool.{Bool}
 use native.Mathlib.Omega.{arith}
 use native.Mathlib.Numerals.{add-one}
@@ -17,10 +17,10 @@ use Rattle.rules.specs.Parse.{assignops}
 use lib.ListN.{getD}
 use mathlib.Core.Path.{_≡_, refl, sym, ap, _∙_}
 use borrow.Author.Needs.{needs}
-use Rattle.program.proofs.line.codegen_from_head.Statement.{statement}
-use Rattle.program.proofs.line.codegen_from_head.Tie as tie
-use Rattle.program.proofs.line.codegen_from_head.Reads as reads
-use Rattle.program.proofs.line.codegen_from_head.Lts as lts
+use Rattle.line.proofs.line.codegen_from_head.Statement.{statement}
+use Rattle.line.proofs.line.codegen_from_head.Tie as tie
+use Rattle.line.proofs.line.codegen_from_head.Reads as reads
+use Rattle.line.proofs.line.codegen_from_head.Lts as lts
 use Rattle.stmts.proofs.sections.codegen_from_goto.Reads as codegen-from-goto-reads
 use Rattle.stmts.proofs.sections.codegen_from_set.Reads as codegen-from-set-reads
 use Rattle.stmts.proofs.sections.codegen_from_step.Reads as codegen-from-step-reads

@@ -6,10 +6,10 @@ use lib.ListN.{getD}
 use mathlib.Core.Path.{refl}
 use mathlib.Core.List.{List, [], _∷_}
 use Prim.Native.Nat.{ℕ, zero-le}
-use Rattle.program.proofs.heads.assign_cost.Statement.{statement}
-use Rattle.program.proofs.heads.assign_cost.Tie as tie
-use Rattle.program.proofs.heads.assign_cost.Reads as reads
-use Rattle.program.proofs.heads.assign_cost.Lts as lts
+use Rattle.line.proofs.heads.assign_cost.Statement.{statement}
+use Rattle.line.proofs.heads.assign_cost.Tie as tie
+use Rattle.line.proofs.heads.assign_cost.Reads as reads
+use Rattle.line.proofs.heads.assign_cost.Lts as lts
 
 -- src/heads.rt:50:1
 returns : tie.Need-returns

@@ -18,7 +18,7 @@ use Rattle.codegen.specs.Does.{Lent}
 use Rattle.stmts.specs.Makes.{Makes, made, nothing, jump}
 use Rattle.stmts.specs.Lists.{only, isEnd}
 use Rattle.stmts.proofs.Lists.{ite-sections, nil-same, or-width, append-nil}
-use Rattle.program.specs.Lines.{own, ownSection, inside, insideSections, Headed}
+use Rattle.line.specs.Lines.{own, ownSection, inside, insideSections, Headed}
 
 -- ---- own sections
 

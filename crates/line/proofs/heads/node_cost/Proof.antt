@@ -1,4 +1,4 @@
-use Rattle.program.specs.Costs.{nodeCost, kindCost}
+use Rattle.line.specs.Costs.{nodeCost, kindCost}
 use Rattle.stmts.specs.Makes.{jumpCost}
 use Rattle.stmts.proofs.Makes.{assign-most}
 use Rattle.exprs.proofs.Trees.{binop-most, unop-most}
@@ -9,13 +9,13 @@ use lib.ListN.{getD}
 use Prim.Native.Nat.{_/_, _%_}
 use native.Mathlib.Omega.{arith}
 use borrow.Author.Needs.{needs}
-use Rattle.program.proofs.heads.node_cost.Statement.{statement}
-use Rattle.program.proofs.heads.node_cost.Tie as tie
-use Rattle.program.proofs.heads.node_cost.Reads as reads
-use Rattle.program.proofs.heads.node_cost.Lts as lts
-use Rattle.program.proofs.heads.assign_cost.Reads as assign-cost-reads
-use Rattle.program.proofs.heads.binop_cost.Reads as binop-cost-reads
-use Rattle.program.proofs.heads.unop_cost.Reads as unop-cost-reads
+use Rattle.line.proofs.heads.node_cost.Statement.{statement}
+use Rattle.line.proofs.heads.node_cost.Tie as tie
+use Rattle.line.proofs.heads.node_cost.Reads as reads
+use Rattle.line.proofs.heads.node_cost.Lts as lts
+use Rattle.line.proofs.heads.assign_cost.Reads as assign-cost-reads
+use Rattle.line.proofs.heads.binop_cost.Reads as binop-cost-reads
+use Rattle.line.proofs.heads.unop_cost.Reads as unop-cost-reads
 
 -- src/heads.rt:65:20
 binop-cost-requires : tie.Need-binop-cost-requires

@@ -25,7 +25,7 @@ use Rattle.codegen.specs.Costs.{binopCost, unopCost}
 use Rattle.codegen.proofs.Lists.{found}
 use Rattle.exprs.specs.Exprs.{exprCost}
 use Rattle.stmts.specs.Makes.{jumpCost}
-use Rattle.program.specs.Costs.{kindCost, nodeCost, costs, ownCost}
+use Rattle.line.specs.Costs.{kindCost, nodeCost, costs, ownCost}
 
 -- ---- ranges
 

@@ -12,7 +12,7 @@ ghost use Rattle.nodes.specs.Holds.{HoldsB};
 ghost use Rattle.rules.specs.Parse.{binops, unops, assignops};
 ghost use Rattle.codegen.specs.Costs.{binopCost, unopCost};
 ghost use Rattle.stmts.specs.Told.{assignCost};
-ghost use Rattle.program.specs.Costs.{nodeCost, costs, ownCost, ListAt};
+ghost use Rattle.line.specs.Costs.{nodeCost, costs, ownCost, ListAt};
 use nodes::kinds::ASSIGN;
 use nodes::kinds::BINOP;
 use nodes::kinds::IDENT;

@@ -1,7 +1,7 @@
-use Rattle.program.proofs.Parts.{only-parts, only-width, line-none, line-more, stored-bare}
-use Rattle.program.proofs.Sums.{own-only}
-use Rattle.program.specs.Costs.{ownCost}
-use Rattle.program.specs.Lines.{innerNodes, insideTally}
+use Rattle.line.proofs.Parts.{only-parts, only-width, line-none, line-more, stored-bare}
+use Rattle.line.proofs.Sums.{own-only}
+use Rattle.line.specs.Costs.{ownCost}
+use Rattle.line.specs.Lines.{innerNodes, insideTally}
 use Rattle.codegen.specs.declared.state.Counters.{Counters}
 use Rattle.stmts.proofs.Places.{some-of, entry-same}
 use Rattle.stmts.proofs.Splits.{split, parts}
@@ -14,13 +14,13 @@ use Prim.Native.Nat.{ℕ, _+_}
 use mathlib.Core.Bool.{cond, true}
 use mathlib.Core.Path.{_≡_, sym, ap, _∙_}
 use borrow.Author.Needs.{needs}
-use Rattle.program.proofs.line.codegen_from_line.Statement.{statement}
-use Rattle.program.proofs.line.codegen_from_line.Tie as tie
-use Rattle.program.proofs.line.codegen_from_line.Reads as reads
-use Rattle.program.proofs.line.codegen_from_line.Lts as lts
-use Rattle.program.proofs.line.codegen_from_head.Reads as codegen-from-head-reads
-use Rattle.program.proofs.line.codegen_from_inside.Reads as codegen-from-inside-reads
-use Rattle.program.proofs.line.with_cursor.Reads as with-cursor-reads
+use Rattle.line.proofs.line.codegen_from_line.Statement.{statement}
+use Rattle.line.proofs.line.codegen_from_line.Tie as tie
+use Rattle.line.proofs.line.codegen_from_line.Reads as reads
+use Rattle.line.proofs.line.codegen_from_line.Lts as lts
+use Rattle.line.proofs.line.codegen_from_head.Reads as codegen-from-head-reads
+use Rattle.line.proofs.line.codegen_from_inside.Reads as codegen-from-inside-reads
+use Rattle.line.proofs.line.with_cursor.Reads as with-cursor-reads
 use Rattle.stmts.proofs.sections.put_section.Reads as put-section-reads
 use Rattle.stmts.proofs.stmt.codegen_and_link_stmts.Reads as codegen-and-link-stmts-reads
 use Rattle.stmts.proofs.stmt.first_link.Reads as first-link-reads

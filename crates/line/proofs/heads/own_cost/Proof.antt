@@ -1,14 +1,14 @@
-use Rattle.program.proofs.Sums.{own-ite, own-other}
+use Rattle.line.proofs.Sums.{own-ite, own-other}
 use Rattle.stmts.proofs.Places.{ite-at}
 use Rattle.stmts.proofs.Splits.{split}
 use native.Mathlib.Omega.{arith}
 use mathlib.Core.Path.{_≡_, sym, _∙_}
 use borrow.Author.Needs.{needs}
-use Rattle.program.proofs.heads.own_cost.Statement.{statement}
-use Rattle.program.proofs.heads.own_cost.Tie as tie
-use Rattle.program.proofs.heads.own_cost.Reads as reads
-use Rattle.program.proofs.heads.own_cost.Lts as lts
-use Rattle.program.proofs.heads.sum_costs.Reads as sum-costs-reads
+use Rattle.line.proofs.heads.own_cost.Statement.{statement}
+use Rattle.line.proofs.heads.own_cost.Tie as tie
+use Rattle.line.proofs.heads.own_cost.Reads as reads
+use Rattle.line.proofs.heads.own_cost.Lts as lts
+use Rattle.line.proofs.heads.sum_costs.Reads as sum-costs-reads
 
 -- src/heads.rt:120:13
 mul-w : tie.Need-mul-w

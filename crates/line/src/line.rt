@@ -12,7 +12,7 @@ ghost use Rattle.nodes.specs.Holds.{HoldsB};
 ghost use Rattle.codegen.specs.Does.{lent};
 ghost use Rattle.stmts.specs.Lists.{ListReady};
 ghost use Rattle.stmts.specs.Makes.{placed};
-ghost use Rattle.program.specs.Lines.{HeadDone, InsideReady, InsideDone, LineReady, LineDone};
+ghost use Rattle.line.specs.Lines.{HeadDone, InsideReady, InsideDone, LineReady, LineDone};
 use codegen::state::Counters;
 use nodes::kinds::ASSIGN;
 use nodes::kinds::GOTO;

@@ -22,7 +22,7 @@ use Rattle.codegen.specs.declared.state.Counters.{Counters}
 use Rattle.codegen.specs.Does.{Lent}
 use Rattle.stmts.specs.Makes.{Regs, Stored, made, nothing, jump, placed}
 use Rattle.stmts.specs.Lists.{Wrote, isEnd, rest, deep, Ample, SpentAll}
-use Rattle.program.specs.Costs.{ownCost}
+use Rattle.line.specs.Costs.{ownCost}
 
 -- what a list's first statement emits itself
 unfoldable pub own : Block → Lower (List Instruction × ℕ)

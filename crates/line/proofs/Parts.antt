@@ -30,9 +30,9 @@ use Rattle.stmts.specs.Lists.{Wrote, only, rest, before, onward, onwardB, isEnd
 use Rattle.stmts.proofs.Makes.{assign-most, jump-cost-most}
 use Rattle.stmts.proofs.Lists.{wrote-one, wrote-more, annotate-first, sections-first, single, onward-same, nil-same, made-width, or-width}
 use Rattle.stmts.proofs.Splits.{parts}
-use Rattle.program.specs.Costs.{ownCost}
-use Rattle.program.specs.Lines.{own, ownSection, inside, insideSections, bare, insideTally, innerNodes, Parted, HeadWent, Headed, InsideWent, Insides, LineWent}
-use Rattle.program.proofs.Firsts.{own-sections, own-state, own-start}
+use Rattle.line.specs.Costs.{ownCost}
+use Rattle.line.specs.Lines.{own, ownSection, inside, insideSections, bare, insideTally, innerNodes, Parted, HeadWent, Headed, InsideWent, Insides, LineWent}
+use Rattle.line.proofs.Firsts.{own-sections, own-state, own-start}
 
 -- ---- what parts count
 

@@ -1,14 +1,14 @@
-use Rattle.program.proofs.Sums.{nothing, next-sum, whole-sum}
-use Rattle.program.specs.Costs.{costs}
+use Rattle.line.proofs.Sums.{nothing, next-sum, whole-sum}
+use Rattle.line.specs.Costs.{costs}
 use native.Mathlib.Omega.{arith}
 use Prim.Native.Nat.{_≤_, _<_, _-_, _*_, _+_}
 use mathlib.Core.Path.{_≡_, refl, sym, _∙_}
 use borrow.Author.Needs.{needs}
-use Rattle.program.proofs.heads.sum_costs.Statement.{statement}
-use Rattle.program.proofs.heads.sum_costs.Tie as tie
-use Rattle.program.proofs.heads.sum_costs.Reads as reads
-use Rattle.program.proofs.heads.sum_costs.Lts as lts
-use Rattle.program.proofs.heads.node_cost.Reads as node-cost-reads
+use Rattle.line.proofs.heads.sum_costs.Statement.{statement}
+use Rattle.line.proofs.heads.sum_costs.Tie as tie
+use Rattle.line.proofs.heads.sum_costs.Reads as reads
+use Rattle.line.proofs.heads.sum_costs.Lts as lts
+use Rattle.line.proofs.heads.node_cost.Reads as node-cost-reads
 
 abbrev Inv-loop : tie.InvT-loop
 Inv-loop nodes i end k₀ n₀ k n = (i ≤ k) × (k ≤ end) × (n ≡ costs nodes i (k - i)) × (n ≤ 9 * (k - i))
