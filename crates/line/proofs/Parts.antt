@@ -27,7 +27,7 @@ use Rattle.codegen.specs.Does.{Lent}
 use Rattle.exprs.proofs.Trees.{expr-most}
 use Rattle.stmts.specs.Makes.{Regs, Stored, placed}
 use Rattle.stmts.specs.Lists.{Wrote, only, rest, before, onward, onwardB, isEnd, Lists, Branch}
-use Rattle.stmts.proofs.Makes.{assign-most, jump-cost-most}
+use Rattle.stmts.proofs.Makes.{assign-most, jump-cost-most, regs-moved}
 use Rattle.stmts.proofs.Lists.{wrote-one, wrote-more, annotate-first, sections-first, single, onward-same, nil-same, made-width, or-width}
 use Rattle.stmts.proofs.Splits.{parts}
 use Rattle.line.specs.Costs.{ownCost}
@@ -101,25 +101,6 @@ pub record IteInside (x y b : Block) : Type 0 where
 pub ite-inside : (e : Expr) (x y b : Block) → b ≡ ite e x y end → IteInside x y b
 unfolding insideTally both
 ite-inside e x y b q = rw q (record { nodes = refl; strings = refl; characters = refl })
-
--- ---- registers
-
--- another cursor does not matter to the registers
-pub regs-placed : {m e : ℕ} {b : Lent} {c : Counters} {t : Lent} {g : CodegenData} (k : ℕ) → Regs m e b c t g → Regs m e b (placed c k) t g
-regs-placed k r =
-    record {
-      err = r .err;
-      numbers = r .numbers;
-      strings = r .strings;
-      chars = r .chars;
-      values = r .values;
-      number-words = r .number-words;
-      string-words = r .string-words;
-      pool-words = r .pool-words;
-      name-words = r .name-words;
-      named = r .named;
-      below = r .below;
-    }
 
 -- ---- sections without instructions
 
@@ -212,9 +193,9 @@ pub line-more : {m : ℕ} (x : Block) {line n n' h head : ℕ} {l' : Bool} {c d 
     → Lists m (rest x) l' n' (c .err .0) f t2 t3 se3 se4 r
     → (e : ℕ) (b : Lent) (g : CodegenData) → Regs m e b c t g → LineWent m e line n head (d .at) b c t t3 se se4 r (annotateStmts x g)
 line-more {m} x {line} {n} {n'} {h} {head} {l'} {c} {d} {f} {r} {t} {t1} {t2} {t3} {se} {se1} {se2} {se3} {se4} s p q o a pl i z e b g y =
-    let u = a .from e b g (regs-placed head y) in
+    let u = a .from e b g (regs-moved head (c .err) (y .err) y) in
     let g1 = own (only x) g .1 in
-    let v = i .from e b g1 (regs-placed (c .at) (u .regs)) in
+    let v = i .from e b g1 (regs-moved (c .at) (d .err) (u .regs .err) (u .regs)) in
     let g2 = annotateStmts (only x) g .1 in
     let w = z .from e b g2 (rw (only-state x g) at (v .regs)) in
     let own0 = own (only x) g .0 in

@@ -28,6 +28,7 @@ use Rattle.codegen.specs.declared.state.Counters.{Counters}
 use Rattle.codegen.specs.Does.{Lent}
 use Rattle.codegen.proofs.Lists.{map-append, length-map}
 use Rattle.stmts.specs.Makes.{Regs}
+use Rattle.stmts.proofs.Makes.{regs-moved}
 use Rattle.stmts.proofs.Lists.{all-append, runs-append, runs-length, made-width}
 use Rattle.line.specs.Costs.{ownCost}
 use Rattle.line.specs.Lines.{innerNodes, Parted, LineSpent, LineWent, LineDone}
@@ -136,39 +137,6 @@ unfolding annotateLines
 script-length [] g = refl
 script-length (b ∷ bs) g = ap suc (script-length bs (annotateStmts b g .1))
 
-regs-aimed : {m e : ℕ} {b : Lent} {c : Counters} {t : Lent} {g : CodegenData} (k : Section) → Regs m e b c t g → Regs m (k .0) b (aimedAt c k) t g
-regs-aimed k r =
-    record {
-      err = refl;
-      numbers = r .numbers;
-      strings = r .strings;
-      chars = r .chars;
-      values = r .values;
-      number-words = r .number-words;
-      string-words = r .string-words;
-      pool-words = r .pool-words;
-      name-words = r .name-words;
-      named = r .named;
-      below = r .below;
-    }
-
--- the line that errors go to is known by the counters
-regs-own : {m e : ℕ} {b : Lent} {c : Counters} {t : Lent} {g : CodegenData} → Regs m e b c t g → Regs m (c .err .0) b c t g
-regs-own r =
-    record {
-      err = refl;
-      numbers = r .numbers;
-      strings = r .strings;
-      chars = r .chars;
-      values = r .values;
-      number-words = r .number-words;
-      string-words = r .string-words;
-      pool-words = r .pool-words;
-      name-words = r .name-words;
-      named = r .named;
-      below = r .below;
-    }
-
 pub lines-none : {m L k n head : ℕ} {c : Counters} {t : Lent} {se : List ℕ} (bs : List Block) → bs ≡ [] → LinesDone m L k bs n head c t t se se head c n
 unfolding annotateLines ownCosts innerAll ofLines none widths
 lines-none bs e =
@@ -213,13 +181,13 @@ lines-more {m} {L} {k} {k1} x bs cs {n} {n1} {n2} {head} {h1} {h2} {c} {d} {c1} 
         let S = annotateStmts x g .0 in
         let g1 = annotateStmts x g .1 in
         let d0 = ap (λ (y : Counters). y .at) dd in
-        let u : LineWent m (nl .0) k n head h1 b d t t1 se se1 c1 (annotateStmts x g) = a .does (nl .0) b g (rw dd (regs-aimed nl r)) in
+        let u : LineWent m (nl .0) k n head h1 b d t t1 se se1 c1 (annotateStmts x g) = a .does (nl .0) b g (rw dd (regs-moved (c .at) nl refl r)) in
         let sec = stmtSections true E n E S in
         let up : Parted (headOf E sec ∷ []) (tailOf sec) k n head (c .at) h1 (c1 .at) (t .instrs) (t1 .instrs) se se1 = rw (v, d0) at (u .parted) in
         let s : n1 ≡ n + sectionsMade S = a .number-is ∙ ap (λ (y : ℕ). n + y) (sym (made-width x g)) in
         let ends = up .tails-end in
         let vv : LinesWent m L k1 n1 h1 h2 b c1 t1 t2 se1 se2 c2 (annotateLines bs g1) =
-        z .does b g1 (regs-own (u .regs)) (omega (arith, a .cost, d0, p, ends, ap (λ (y : Counters). y .at) dd)) (omega (arith, a .number-is, q)) in
+        z .does b g1 (regs-moved (c1 .at) (c1 .err) refl (u .regs)) (omega (arith, a .cost, d0, p, ends, ap (λ (y : Counters). y .at) dd)) (omega (arith, a .number-is, q)) in
         let ss = annotateLines bs g1 .0 in
         let vp : Parted (heads L (suc k) (n + sectionsMade S) ss) (tails L (suc k) (n + sectionsMade S) ss) (suc k) (n + sectionsMade S) h1 (c1 .at) h2 (c2 .at) (t1 .instrs) (t2 .instrs) se1 se2 =
         rw (s, o, add-one k) at (vv .parted) in

@@ -15,6 +15,7 @@ use Rattle.rules.specs.Tables.{runOf}
 use Rattle.rules.specs.Assemble.{ownCode}
 use Rattle.rules.specs.CodegenData.{CodegenData, Lower, scoped}
 use Rattle.words.specs.Runs as Runs
+use Rattle.words.specs.declared.instr.Section.{Section}
 use Rattle.rules.specs.Tree.{Assignop, Plain, AddTo, SubTo, MulTo, DivTo, ModTo, PowTo}
 use Rattle.stmts.specs.Told.{assignCost}
 use Rattle.codegen.specs.declared.state.Counters.{Counters}
@@ -117,11 +118,12 @@ pub makes-plain : {n : ℕ} {m : Lower ℕ} {l : Bool} {c c1 : Counters} {t t1 :
     → Does n m c t t1 r c1 → se' ≡ set se slot w → w ≡ runWord (Runs.runOf l (f r) (c .at) (c1 .at - c .at)) → Makes n m l nothing f slot c t t1 se se' c1
 makes-plain {c1 = c1} f slot se x put word = makes nothing f slot se x refl (sym (add-zero (c1 .at))) (λ e b g q. q) put word
 
--- registers do not see the cursor or the instructions
-pub regs-placed : {n e k : ℕ} {b : Lent} {c : Counters} {is is' : List ℕ} {ns : List ℤ} {ss ps ms : List ℕ} {g : CodegenData} → Regs n e b c (lent is ns ss ps ms) g → Regs n e b (placed c k) (lent is' ns ss ps ms) g
-regs-placed r =
+-- registers do not see the cursor or the instructions; errors go to the line that the counters say
+pub regs-moved : {n e e' : ℕ} {b : Lent} {c : Counters} {t : Lent} {is : List ℕ} {g : CodegenData} (k : ℕ) (s : Section) → s .0 ≡ e' → Regs n e b c t g
+    → Regs n e' b (record { at = k; numbers = c .numbers; strings = c .strings; chars = c .chars; values = c .values; err = s }) (lent is (t .numbers) (t .strings) (t .pool) (t .names)) g
+regs-moved k s q r =
     record {
-      err = r .err;
+      err = q;
       numbers = r .numbers;
       strings = r .strings;
       chars = r .chars;
@@ -139,7 +141,7 @@ pub makes-jump : {n : ℕ} {m : Lower ℕ} {l : Bool} {c c1 c' : Counters} {t : 
     → Does n m c t (lent is1 ns ss ps ms) r c1 → is' ≡ sets is1 (c1 .at) (map insWord (d r)) → c' ≡ placed c1 (c1 .at + length (d r))
     → se' ≡ set se slot w → w ≡ runWord (Runs.runOf l (f r) (c .at) (c' .at - c .at)) → Makes n m l d f slot c t (lent is' ns ss ps ms) se se' c'
 makes-jump {c1 = c1} {r = r} d f slot se x code at put word =
-    makes d f slot se x code (ap (λ (k : Counters). k .at) at) (λ e b g q. rw at (regs-placed q)) put word
+    makes d f slot se x code (ap (λ (k : Counters). k .at) at) (λ e b g q. rw at (regs-moved _ (c1 .err) (q .err) q)) put word
 
 pub placed-same : (c : Counters) → c ≡ placed c (c .at + 0)
 placed-same c = ap (placed c) (sym (add-zero (c .at)))
