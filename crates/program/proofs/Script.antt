@@ -62,29 +62,6 @@ pub no-lines : {t ls s : List ℕ} {m k i L z : ℕ} {bs : List Block} → k ≡
 no-lines e (no-line p q) = record { is = refl }
 no-lines e (a-line n f w b p l) = absurd (let h = lines-count l in omega arith)
 
--- line k by its word
-pub record LineHeld (t ls s : List ℕ) (m k i L : ℕ) (bs : List Block) (z : ℕ) : Type 0 where
-  pub block : Block
-  pub others : List Block
-  pub last : ℕ
-  pub is : bs ≡ (block ∷ others)
-  pub here : HoldsB t s m (getD ls k 0 % 64) (getD ls k 0 / 64) block last
-  pub behind : HoldsL t ls s m (k + 1) last others L z
-  pub grows : getD ls k 0 / 64 ≤ last
-  pub ends : last ≤ z
-
-held-at : {t s : List ℕ} {m n n' i i' z : ℕ} {x : Block} → n ≡ n' → i ≡ i' → HoldsB t s m n i x z → HoldsB t s m n' i' x z
-held-at p q h = rw (p, q) at h
-
-pub line-held : {t ls s : List ℕ} {m k i L z : ℕ} {bs : List Block} → k < L → HoldsL t ls s m k i bs L z → LineHeld t ls s m k i L bs z
-unfolding lineWord
-line-held h (no-line p q) = absurd (omega arith)
-line-held {ls = ls} {k = k} {i = i} h (a-line n f w b e l) =
-    let p : n ≡ getD ls k 0 % 64 = omega (arith, w) in
-    let q : i ≡ getD ls k 0 / 64 = omega (arith, w) in
-    let y = held-at p q b in
-    record { block = _; others = _; last = _; is = refl; here = y; behind = rw (← e) l; grows = grows-b y; ends = lines-grow l }
-
 -- what the first line and the others count
 pub record LinesSum (b : Block) (bs cs : List Block) : Type 0 where
   pub nodes : ofLines cs .nodes ≡ ofBlock b .nodes + ofLines bs .nodes
@@ -94,9 +71,33 @@ pub record LinesSum (b : Block) (bs cs : List Block) : Type 0 where
   pub own : ownCosts cs ≡ ownCost b + ownCosts bs
   pub inner : innerAll cs ≡ innerNodes b + innerAll bs
 
-pub lines-sum : (b : Block) (bs cs : List Block) → cs ≡ (b ∷ bs) → LinesSum b bs cs
+lines-sum : (b : Block) (bs cs : List Block) → cs ≡ (b ∷ bs) → LinesSum b bs cs
 unfolding ofLines both widths ownCosts innerAll
 lines-sum b bs cs e = rw e (record { nodes = refl; strings = refl; characters = refl; sections = refl; own = refl; inner = refl })
+
+-- line k by its word
+pub record LineHeld (t ls s : List ℕ) (m k i L : ℕ) (bs : List Block) (z : ℕ) : Type 0 where
+  pub block : Block
+  pub others : List Block
+  pub last : ℕ
+  pub is : bs ≡ (block ∷ others)
+  pub here : HoldsB t s m (getD ls k 0 % 64) (getD ls k 0 / 64) block last
+  pub behind : HoldsL t ls s m (k + 1) last others L z
+  pub ends : last ≤ z
+  pub more : k < L
+  pub sum : LinesSum block others bs
+
+held-at : {t s : List ℕ} {m n n' i i' z : ℕ} {x : Block} → n ≡ n' → i ≡ i' → HoldsB t s m n i x z → HoldsB t s m n' i' x z
+held-at p q h = rw (p, q) at h
+
+pub line-held : {t ls s : List ℕ} {m k i L z : ℕ} {bs : List Block} → (k ≡ L → ⊥) → HoldsL t ls s m k i bs L z → LineHeld t ls s m k i L bs z
+unfolding lineWord
+line-held h (no-line p q) = absurd (omega arith)
+line-held {ls = ls} {k = k} {i = i} h (a-line n f w b e l) =
+    let p : n ≡ getD ls k 0 % 64 = omega (arith, w) in
+    let q : i ≡ getD ls k 0 / 64 = omega (arith, w) in
+    let y = held-at p q b in
+    record { block = _; others = _; last = _; is = refl; here = y; behind = rw (← e) l; ends = lines-grow l; more = omega (arith, lines-count l); sum = lines-sum _ _ _ refl }
 
 pub owns-most : (bs : List Block) → ownCosts bs + 9 * innerAll bs ≤ 9 * ofLines bs .nodes
 unfolding ownCosts innerAll ofLines both none
@@ -137,6 +138,17 @@ unfolding annotateLines
 script-length [] g = refl
 script-length (b ∷ bs) g = ap suc (script-length bs (annotateStmts b g .1))
 
+-- the counts of equal counters
+pub record SameCounts (c d : Counters) : Type 0 where
+  pub at : d .at ≡ c .at
+  pub numbers : d .numbers ≡ c .numbers
+  pub strings : d .strings ≡ c .strings
+  pub chars : d .chars ≡ c .chars
+  pub values : d .values ≡ c .values
+
+pub same-counts : {c d : Counters} → d ≡ c → SameCounts c d
+same-counts q = rw q (record { at = refl; numbers = refl; strings = refl; chars = refl; values = refl })
+
 pub lines-none : {m L k n head : ℕ} {c : Counters} {t : Lent} {se : List ℕ} (bs : List Block) → bs ≡ [] → LinesDone m L k bs n head c t t se se head c n
 unfolding annotateLines ownCosts innerAll ofLines none widths
 lines-none bs e =
@@ -155,23 +167,11 @@ pub lines-more : {m L k k1 : ℕ} (x : Block) (bs cs : List Block) {n n1 n2 head
 unfolding annotateLines
 lines-more {m} {L} {k} {k1} x bs cs {n} {n1} {n2} {head} {h1} {h2} {c} {d} {c1} {c2} {t} {t1} {t2} {se} {se1} {se2} nl e o w v dd a z =
     let sm = lines-sum x bs cs e in
-    let d0 = ap (λ (y : Counters). y .at) dd in
-    let d1 = ap (λ (y : Counters). y .numbers) dd in
-    let d2 = ap (λ (y : Counters). y .values) dd in
-    let d3 = ap (λ (y : Counters). y .strings) dd in
-    let d4 = ap (λ (y : Counters). y .chars) dd in
-    let s1 = a .spent in
-    let s2 = z .spent in
+    let sc = same-counts dd in
     record {
       does = λ b g r p q. went b g r (omega (arith, sm .own, p)) q;
       cost = omega (arith, a .cost, z .cost, sm .own);
-      spent = record {
-        at = omega (arith, s1 .at, s2 .at, sm .inner, d0);
-        numbers = omega (arith, s1 .numbers, s2 .numbers, sm .nodes, d1);
-        values = omega (arith, s1 .values, s2 .values, sm .nodes, d2);
-        strings = omega (arith, s1 .strings, s2 .strings, sm .strings, d3);
-        chars = omega (arith, s1 .chars, s2 .chars, sm .characters, d4);
-      };
+      spent = omega (arith, a .spent, z .spent, sm, sc);
       number-is = omega (arith, a .number-is, z .number-is, sm .sections);
     }
   where
@@ -180,14 +180,14 @@ lines-more {m} {L} {k} {k1} x bs cs {n} {n1} {n2} {head} {h1} {h2} {c} {d} {c1} 
         let E = nextLine L k in
         let S = annotateStmts x g .0 in
         let g1 = annotateStmts x g .1 in
-        let d0 = ap (λ (y : Counters). y .at) dd in
+        let d0 = same-counts dd .at in
         let u : LineWent m (nl .0) k n head h1 b d t t1 se se1 c1 (annotateStmts x g) = a .does (nl .0) b g (rw dd (regs-moved (c .at) nl refl r)) in
         let sec = stmtSections true E n E S in
         let up : Parted (headOf E sec ∷ []) (tailOf sec) k n head (c .at) h1 (c1 .at) (t .instrs) (t1 .instrs) se se1 = rw (v, d0) at (u .parted) in
         let s : n1 ≡ n + sectionsMade S = a .number-is ∙ ap (λ (y : ℕ). n + y) (sym (made-width x g)) in
         let ends = up .tails-end in
         let vv : LinesWent m L k1 n1 h1 h2 b c1 t1 t2 se1 se2 c2 (annotateLines bs g1) =
-        z .does b g1 (regs-moved (c1 .at) (c1 .err) refl (u .regs)) (omega (arith, a .cost, d0, p, ends, ap (λ (y : Counters). y .at) dd)) (omega (arith, a .number-is, q)) in
+        z .does b g1 (regs-moved (c1 .at) (c1 .err) refl (u .regs)) (omega (arith, a .cost, d0, p, ends)) (omega (arith, a .number-is, q)) in
         let ss = annotateLines bs g1 .0 in
         let vp : Parted (heads L (suc k) (n + sectionsMade S) ss) (tails L (suc k) (n + sectionsMade S) ss) (suc k) (n + sectionsMade S) h1 (c1 .at) h2 (c2 .at) (t1 .instrs) (t2 .instrs) se1 se2 =
         rw (s, o, add-one k) at (vv .parted) in
