@@ -32,7 +32,7 @@ use Rattle.stmts.proofs.Makes.{regs-moved}
 use Rattle.stmts.proofs.Lists.{all-append, runs-append, runs-length, made-width}
 use Rattle.line.specs.Costs.{ownCost}
 use Rattle.line.specs.Lines.{innerNodes, Parted, LineSpent, LineWent, LineDone}
-use Rattle.program.specs.Script.{ownCosts, innerAll, aimedAt, LinesWent, LinesDone}
+use Rattle.program.specs.Script.{ownCosts, innerAll, aimedAt, CostsMid, LinesReady, LinesWent, LinesDone, LinesMid, SameLengths}
 use Rattle.line.proofs.Parts.{own-most}
 use Rattle.program.proofs.Runs.{two-runs}
 
@@ -199,3 +199,73 @@ lines-more {m} {L} {k} {k1} x bs cs {n} {n1} {n2} {head} {h1} {h2} {c} {d} {c1} 
           regs = vv .regs;
           parted = parted-more up (sym (add-one k)) (ap (λ (y : ℕ). n + y) (sym l1)) vp (omega (arith, up .heads-end, vp .heads-end, a .cost, z .cost, p)) (omega (arith, hl, sl, w, o, q));
         })
+
+-- ---- line by line: the sum of their costs
+
+pub costs-begin : {t ls : List ℕ} {L : ℕ} → CostsMid t ls L 0 0
+costs-begin = record { sums = λ s m bs i z a b h. record { rest = bs; first = i; held = h; all = omega arith } }
+
+pub costs-on : {t ls : List ℕ} {L k sum cost : ℕ} → CostsMid t ls L k sum → k < L
+    → ((s : List ℕ) (m : ℕ) (x : Block) (z : ℕ) → length s ≤ mostBytes → m ≤ 256 → HoldsB t s m (getD ls k 0 % 64) (getD ls k 0 / 64) x z → cost ≡ ownCost x)
+    → CostsMid t ls L (k + 1) (sum + cost)
+costs-on c h f =
+    record {
+      sums = λ s m bs i z a b q.
+          let u = c .sums s m bs i z a b q in
+          let lh = line-held (λ e. omega arith) (u .held) in
+          record { rest = lh .others; first = lh .last; held = lh .behind; all = omega (arith, u .all, lh .sum .own, f s m (lh .block) (lh .last) a b (lh .here)) };
+    }
+
+pub costs-end : {t ls s : List ℕ} {L k sum m i z : ℕ} {bs : List Block} → CostsMid t ls L k sum → k ≡ L → length s ≤ mostBytes → m ≤ 256 → HoldsL t ls s m 0 i bs L z → sum ≡ ownCosts bs
+unfolding ownCosts
+costs-end {sum = sum} c e a b h =
+    let u = c .sums _ _ _ _ _ a b h in
+    let n : ownCosts (u .rest) ≡ 0 = rw (no-lines e (u .held) .is) refl in
+    omega (arith, u .all, n)
+
+-- ---- line by line: their sections
+
+pub lines-begin : {s t ls : List ℕ} {L n head : ℕ} {c : Counters} {t0 : Lent} {se : List ℕ}
+    → LinesReady s t ls 0 L n head c (length (t0 .instrs)) (length (t0 .numbers)) (length (t0 .strings)) (length (t0 .pool)) (length (t0 .names)) (length se)
+    → LinesMid s t ls L n head c t0 se 0 n head c t0 se
+lines-begin r = record { ready = r; going = λ m bs i z a h. record { rest = bs; first = i; held = h; goes = λ t2 se2 h2 c2 n2 d. d } }
+
+module _ {s t ls : List ℕ} {L n0 head0 : ℕ} {c0 : Counters} {t0 : Lent} {se0 : List ℕ} {k n head : ℕ} {c : Counters} {t1 : Lent} {se : List ℕ} (mid : LinesMid s t ls L n0 head0 c0 t0 se0 k n head c t1 se) where
+  pub lines-on : {d c1 : Counters} {t2 : Lent} {se2 : List ℕ} {h1 n1 : ℕ} (nl : Section) → k < L → nl .0 ≡ nextLine L k → d ≡ aimedAt c nl → SameLengths t1 t2 se se2
+      → ((m : ℕ) (x : Block) (z : ℕ) → m ≤ 256 → HoldsB t s m (getD ls k 0 % 64) (getD ls k 0 / 64) x z → LineDone m x k n head d t1 t2 se se2 h1 c1 n1)
+      → LinesMid s t ls L n0 head0 c0 t0 se0 (k + 1) n1 h1 c1 t2 se2
+  lines-on nl h v dd same f =
+      let p = mid .ready in
+      let sc = same-counts dd in
+      let lh = line-held (λ e. omega arith) (p .held) in
+      let ld = f _ _ _ (p .few) (lh .here) in
+      record {
+        ready = record {
+          known = p .known;
+          blocks = lh .others;
+          first = lh .last;
+          last = p .last;
+          held = lh .behind;
+          inside = p .inside;
+          short = p .short;
+          few = p .few;
+          words = p .words;
+          few-lines = p .few-lines;
+          few-nodes = omega (arith, p .few-nodes, lh .sum);
+          ample = omega (arith, p .ample, lh .sum, sc, ld .cost, ld .spent, ld .number-is, own-most (lh .block), same);
+          behind = omega (arith, p .behind, lh .sum, sc, ld .spent, same);
+          first-lines = omega (arith, p .first-lines, ld .number-is);
+        };
+        going = λ m bs i z a q.
+            let u = mid .going m bs i z a q in
+            let lu = line-held (λ e. omega arith) (u .held) in
+            record {
+              rest = lu .others;
+              first = lu .last;
+              held = lu .behind;
+              goes = λ t3 se3 h3 c3 n3 e. u .goes t3 se3 h3 c3 n3 (lines-more (lu .block) (lu .others) (u .rest) nl (lu .is) refl (lines-count (lu .behind)) v dd (f m _ _ a (lu .here)) e);
+            };
+      }
+
+  pub lines-end : {m i z : ℕ} {bs : List Block} → k ≡ L → m ≤ 256 → HoldsL t ls s m 0 i bs L z → LinesDone m L 0 bs n0 head0 c0 t0 t1 se0 se head c n
+  lines-end e a h = let u = mid .going _ _ _ _ a h in u .goes _ _ _ _ _ (lines-none (u .rest) (no-lines e (u .held) .is))

@@ -1,7 +1,7 @@
 -- All lines: their first sections stand at the lines' numbers, their others behind, and so do the instructions.
 use mathlib.Core.Path.{_≡_}
 use mathlib.Core.List.{List, [], _∷_}
-use Prim.Native.Nat.{ℕ, _+_, _*_, _≤_, _<_}
+use Prim.Native.Nat.{ℕ, _+_, _*_, _/_, _%_, _≤_, _<_}
 use lib.ListN.{length}
 use Rattle.rules.specs.Constants.{mostBytes, mostNodes}
 use Rattle.rules.specs.Tree.{Block, ofLines}
@@ -9,6 +9,7 @@ use Rattle.rules.specs.Script.{Script}
 use Rattle.rules.specs.Assemble.{heads, tails}
 use Rattle.rules.specs.CodegenData.{CodegenData}
 use Rattle.rules.specs.Annotate.{annotateLines}
+use Rattle.nodes.specs.Holds.{HoldsB}
 use Rattle.tree.specs.Files.{HoldsL, widths}
 use Rattle.codegen.specs.declared.state.Counters.{Counters}
 use Rattle.words.specs.declared.instr.Section.{Section}
@@ -31,20 +32,42 @@ innerAll (b ∷ bs) = innerNodes b + innerAll bs
 abbrev pub aimedAt : Counters → Section → Counters
 aimedAt c e = record { at = c .at; numbers = c .numbers; strings = c .strings; chars = c .chars; values = c .values; err = e }
 
--- the lines k to L are held
-pub record LinesAt (t ls : List ℕ) (k L : ℕ) : Type 0 where
+-- all L lines are held
+pub record LinesAt (t ls : List ℕ) (L : ℕ) : Type 0 where
   pub file : List ℕ
   pub known : ℕ
   pub blocks : List Block
   pub first : ℕ
   pub last : ℕ
-  pub held : HoldsL t ls file known k first blocks L last
+  pub held : HoldsL t ls file known 0 first blocks L last
   pub inside : last ≤ length t
   pub small : last ≤ mostNodes
   pub short : length file ≤ mostBytes
   pub few : known ≤ 256
   pub words : L ≤ length ls
   pub few-nodes : ofLines blocks .nodes ≤ mostNodes
+
+-- a line's word, and the statements that it names are held
+pub record HeadReady (t : List ℕ) (w : ℕ) : Type 0 where
+  pub file : List ℕ
+  pub known : ℕ
+  pub block : Block
+  pub last : ℕ
+  pub held : HoldsB t file known (w % 64) (w / 64) block last
+  pub inside : last ≤ length t
+  pub small : last ≤ mostNodes
+  pub short : length file ≤ mostBytes
+  pub few : known ≤ 256
+
+-- `sum` counts the lines before line k: with the others it counts all
+pub record Summed (t ls s : List ℕ) (m L k sum : ℕ) (bs : List Block) (z : ℕ) : Type 0 where
+  pub rest : List Block
+  pub first : ℕ
+  pub held : HoldsL t ls s m k first rest L z
+  pub all : sum + ownCosts rest ≡ ownCosts bs
+
+pub record CostsMid (t ls : List ℕ) (L k sum : ℕ) : Type 0 where
+  pub sums : (s : List ℕ) (m : ℕ) (bs : List Block) (i z : ℕ) → length s ≤ mostBytes → m ≤ 256 → HoldsL t ls s m 0 i bs L z → Summed t ls s m L k sum bs z
 
 -- and there is room for them: for their first sections' instructions from `head` on, for the others from the cursor on
 pub record LinesReady (s t ls : List ℕ) (k L number head : ℕ) (c : Counters) (il nl sl pl ml zl : ℕ) : Type 0 where
@@ -74,3 +97,23 @@ pub record LinesDone (m L k : ℕ) (bs : List Block) (n head : ℕ) (c : Counter
   pub cost : head' ≡ head + ownCosts bs
   pub spent : LineSpent (innerAll bs) (ofLines bs) c c'
   pub number-is : number ≡ n + widths bs
+
+-- midway, before line k: whatever the lines from k on do, the whole then does
+pub record Going (s t ls : List ℕ) (m L : ℕ) (bs : List Block) (z n0 head0 : ℕ) (c0 : Counters) (t0 : Lent) (se0 : List ℕ) (k n head : ℕ) (c : Counters) (t1 : Lent) (se : List ℕ) : Type 0 where
+  pub rest : List Block
+  pub first : ℕ
+  pub held : HoldsL t ls s m k first rest L z
+  pub goes : (t2 : Lent) (se2 : List ℕ) (head2 : ℕ) (c2 : Counters) (n2 : ℕ) → LinesDone m L k rest n head c t1 t2 se se2 head2 c2 n2 → LinesDone m L 0 bs n0 head0 c0 t0 t2 se0 se2 head2 c2 n2
+
+pub record LinesMid (s t ls : List ℕ) (L n0 head0 : ℕ) (c0 : Counters) (t0 : Lent) (se0 : List ℕ) (k n head : ℕ) (c : Counters) (t1 : Lent) (se : List ℕ) : Type 0 where
+  pub ready : LinesReady s t ls k L n head c (length (t1 .instrs)) (length (t1 .numbers)) (length (t1 .strings)) (length (t1 .pool)) (length (t1 .names)) (length se)
+  pub going : (m : ℕ) (bs : List Block) (i z : ℕ) → m ≤ 256 → HoldsL t ls s m 0 i bs L z → Going s t ls m L bs z n0 head0 c0 t0 se0 k n head c t1 se
+
+-- no table grew or shrank
+pub record SameLengths (t t' : Lent) (se se' : List ℕ) : Type 0 where
+  pub instrs : length (t' .instrs) ≡ length (t .instrs)
+  pub numbers : length (t' .numbers) ≡ length (t .numbers)
+  pub strings : length (t' .strings) ≡ length (t .strings)
+  pub pool : length (t' .pool) ≡ length (t .pool)
+  pub names : length (t' .names) ≡ length (t .names)
+  pub sections : length se' ≡ length se

@@ -39,7 +39,7 @@ pub fn codegen_from_program(
 {
     clear_names(names, name_count);
     let first = Counters {
-        at: head_costs(nodes, lines, 0, line_count),
+        at: head_costs(nodes, lines, line_count),
         numbers: 0,
         strings: 0,
         chars: 0,
@@ -56,7 +56,6 @@ pub fn codegen_from_program(
         strings,
         pool,
         names,
-        0,
         line_count,
         line_count as u16,
         0,
