@@ -13,7 +13,7 @@ use Rattle.rules.specs.Replace.{rules, lookup, replaceSections}
 use Rattle.rules.specs.Clean.{cleanSections}
 use Rattle.rules.specs.Combine.{combineSections}
 use Rattle.rules.specs.Lowered.{defaults, finished}
-use Rattle.rules.specs.Walk.{Trace, Ask, atJump, atGoto, ask, more, over, walkSections, walk}
+use Rattle.rules.specs.Walk.{Trace, Ask, atJump, atGoto, ask, more, over, walkSections, walk, entered}
 use Rattle.rules.specs.ReadScript.{readScript}
 use Rattle.rules.specs.Reading.{repScript, reading}
 use Rattle.rules.specs.Examples.{bytes}
@@ -62,6 +62,20 @@ walk-examples = refl
 pub silent : bothWalks (bytes 4 0x01010000) (1 ∷ []) ≡ ok (([], more), ([], more))
 unfolding bothWalks bytes
 silent = refl
+
+-- the sections that the finished machine of `if a then b=1 end` enters: 0, the test, to which the empty else-list is joined; 1, the then-list,
+-- only where the test is taken; 2, what follows both
+unfoldable pub sectionsEntered : List ℕ → Res (List ℕ)
+unfolding parse finished defaults entered bytes
+sectionsEntered os = elim (parse (bytes 21 0x0101020184062056000E02200000000000001F4000)) [ refused n ↦ refused n | ok t ↦ ok (entered (finished defaults t) os 100) ]
+
+pub then-entered : sectionsEntered (1 ∷ []) ≡ ok (0 ∷ 1 ∷ 2 ∷ 0 ∷ [])
+unfolding sectionsEntered
+then-entered = refl
+
+pub else-entered : sectionsEntered (0 ∷ []) ≡ ok (0 ∷ 2 ∷ 0 ∷ [])
+unfolding sectionsEntered
+else-entered = refl
 
 -- ---- scripts
 
