@@ -12,6 +12,7 @@ ghost use Rattle.rules.specs.CodegenData.{emit as emitS, newNum, newVal};
 ghost use Rattle.rules.specs.Operators.{errorJump, getVariable};
 ghost use Rattle.codegen.specs.Does.{wordTo, DoesNone, DoesCode, DoesNums, DoesNames};
 ghost use Rattle.codegen.specs.Costs.{Spent, plus-instr, plus-number, plus-value};
+use words::MARK;
 use words::instr::Instruction;
 use words::instr::NumReg;
 use words::instr::Section;
@@ -43,9 +44,6 @@ pub struct GotVal {
     pub reg: ValReg,
     pub next: Counters,
 }
-
-// A name without a register.
-pub const NO_REGISTER: u16 = 65535;
 
 // A count as an index.
 pub fn index(n: u16) -> usize
@@ -161,7 +159,7 @@ pub fn get_variable(names: &mut [u16], c: Counters, x: usize) -> GotVal
     ensures does { λ r. ⌜ ((n : ℕ) → x < n → DoesNames n (getVariable x) c (now (names .entry)) (now (names .exit)) (r .reg .0) (r .next)) ⌝ }
 {
     let v = names[x];
-    if v != NO_REGISTER {
+    if v != MARK {
         return GotVal {
             reg: ValReg(v),
             next: c,

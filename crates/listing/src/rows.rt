@@ -15,12 +15,10 @@ use crate::row::row_n;
 use crate::row::row_s;
 use crate::row::row_t;
 use crate::row::row_v;
+use words::MARK;
 use words::instr::Instruction;
 use words::section::SectionWord;
 use words::text::StringWord;
-
-// The word of a name without a register.
-const NO_REGISTER: u16 = 65535;
 
 pub fn rows_n(out: &mut [u8], at: usize, numbers: &[i64], n: usize) -> usize
     requires { ⌜ (n ≤ length (now numbers)) × Room (now out) at (Listing.rowsN 0 (take n (now numbers))) ⌝ }
@@ -60,7 +58,7 @@ pub fn rows_v(out: &mut [u8], at: usize, names: &[u16], n: usize) -> usize
     let mut i: usize = 0;
     while i < n {
         let v = names[i];
-        if v != NO_REGISTER {
+        if v != MARK {
             a = row_v(out, a, i, v);
         }
         i += 1;

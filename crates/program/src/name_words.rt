@@ -14,9 +14,9 @@ ghost use Rattle.codegen.specs.Does.{regWord};
 ghost use Rattle.program.specs.Program.{optionsTold};
 ghost use Rattle.program.specs.Names.{NamesReady};
 use crate::options::CodegenOptions;
-use codegen::state::NO_REGISTER;
 use names::after;
 use names::is_global;
+use words::MARK;
 
 // The bit at which a file's names begin: behind form, lines and names, of 8 bits each.
 const FIRST_NAME: usize = 24;
@@ -28,7 +28,7 @@ pub fn clear_names(names: &mut [u16], n: usize)
 {
     let mut k: usize = 0;
     while k < n {
-        names[k] = NO_REGISTER;
+        names[k] = MARK;
         k += 1;
     }
 }
@@ -53,7 +53,7 @@ pub fn protect_names(s: &[u8], names: &mut [u16], n: usize, options: CodegenOpti
     let mut k: usize = 0;
     while k < n {
         if !protected(options, is_global(s, q)) {
-            names[k] = NO_REGISTER;
+            names[k] = MARK;
         }
         q = after(s, q);
         k += 1;

@@ -16,12 +16,13 @@ use counts::answered;
 use counts::put_sizes;
 use counts::read_counts;
 use tables::answer::Answer;
+use tables::counts::Counts;
 use tables::text::text_place;
 use tree::SizeAnswer;
 use words::instr::StrReg;
 
 // The largest register number.
-const MOST_REGISTER: u64 = 65535;
+const MOST_REGISTER: u64 = Counts::MOST as u64;
 
 // The largest start that a spot can say.
 const MOST_START: usize = 4294967295;

@@ -7,15 +7,13 @@ ghost use Rattle.words.specs.Told.{kindTold};
 ghost use Rattle.tables.specs.Lent.{countsTold};
 ghost use Rattle.tables.specs.Rules.{sectionFits};
 use crate::counts::Counts;
+use words::MARK;
 use words::instr::Fields;
 use words::instr::Instruction;
 use words::instr::Kind;
 use words::section::SectionOrLine;
 use words::section::SectionWord;
 use words::text::StringWord;
-
-// The word of a name without a register.
-const NO_REGISTER: u16 = 65535;
 
 // A field: a register or a section below its count, 0 where it is unused.
 fn field_fits(c: Counts, kind: Kind, n: u16) -> bool
@@ -92,5 +90,5 @@ pub fn string_fits(c: Counts, w: StringWord) -> bool
 pub fn name_fits(c: Counts, n: u16) -> bool
     ensures { λ r. ⌜ r ≡ nameFits (countsTold c) n ⌝ }
 {
-    (n == NO_REGISTER) | ((n as usize) < c.values)
+    (n == MARK) | ((n as usize) < c.values)
 }

@@ -7,6 +7,7 @@ ghost use Rattle.rules.specs.Bits.{isOne};
 ghost use Rattle.rules.specs.Word.{runWord, wordRun, runSpare};
 ghost use Rattle.rules.specs.Tables as Tables;
 ghost use Rattle.words.specs.Runs as Runs;
+use crate::MARK;
 use crate::instr::NumReg;
 use crate::instr::Section;
 
@@ -34,7 +35,7 @@ impl SectionOrLine {
         ensures { λ r. ⌜ r ≡ Tables.targetOf (Runs.successTold self) ⌝ }
     {
         match self {
-            SectionOrLine::Unfixed => SectionWord::UNFIXED,
+            SectionOrLine::Unfixed => MARK,
             SectionOrLine::Section(s) => s.0,
             SectionOrLine::Line(n) => n.0,
         }
@@ -55,8 +56,6 @@ impl SectionWord {
     const SECTION: u64 = 0;
 
     const LINE: u64 = 1;
-
-    const UNFIXED: u16 = 65535;
 
     fn word(start: u64, kind: u64, target: u16, first: u16, count: u16) -> SectionWord
         requires { ⌜ (start < 2) × (kind < 2) ⌝ }
@@ -127,7 +126,7 @@ impl SectionWord {
         if self.kind() == Self::LINE {
             return SectionOrLine::Line(NumReg(target));
         }
-        if target == Self::UNFIXED {
+        if target == MARK {
             return SectionOrLine::Unfixed;
         }
         SectionOrLine::Section(Section(target))
