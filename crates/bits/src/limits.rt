@@ -9,7 +9,7 @@ pub const MOST_DEPTH: usize = 64;
 // The nodes of a tree: statements and expressions.
 pub const MOST_NODES: usize = 2048;
 
-// The lines of a file.
+// The lines of a file, and of a machine.
 pub const MOST_LINES: usize = 255;
 
 // The form's number.

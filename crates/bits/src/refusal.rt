@@ -27,5 +27,5 @@ pub const TOO_MANY_NODES: u64 = 8;
 // A fill bit is not zero, or a byte is left over.
 pub const LEFT_OVER: u64 = 9;
 
-// The file is longer than 32,768 bytes.
+// The file is longer than is read.
 pub const TOO_LONG: u64 = 10;

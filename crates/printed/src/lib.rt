@@ -4,6 +4,7 @@ ghost use lib.ListN.{length};
 ghost use Rattle.rules.specs.Listing as Listing;
 ghost use Rattle.tables.specs.Lent.{tables};
 ghost use Rattle.printed.specs.Prints.{mostPrinted, printed, Roomy, Sized, SizedRoom, Prints};
+use bits::refusal::TOO_LONG;
 use finish::finish;
 use listing::listing::listing;
 use listing::row::row_r;
@@ -35,9 +36,6 @@ pub const MOST_PRINTED: usize = 107
     + 29 * NAMES
     + 47 * SECTIONS
     + 26 * INSTRUCTIONS;
-
-// The file is longer than finlist reads.
-const TOO_LONG: u64 = 10;
 
 // The rows of a file's finished machine in lent tables.
 fn print_in(

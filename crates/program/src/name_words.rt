@@ -14,12 +14,14 @@ ghost use Rattle.codegen.specs.Does.{regWord};
 ghost use Rattle.program.specs.Program.{optionsTold};
 ghost use Rattle.program.specs.Names.{NamesReady};
 use crate::options::CodegenOptions;
+use bits::limits::HEAD_BITS;
+use bits::limits::NAME_BITS;
 use names::after;
 use names::is_global;
 use words::MARK;
 
-// The bit at which a file's names begin: behind form, lines and names, of 8 bits each.
-const FIRST_NAME: usize = 24;
+// The bit at which a file's names begin: behind form, lines and names.
+const FIRST_NAME: usize = HEAD_BITS + HEAD_BITS + NAME_BITS;
 
 // No name has a register yet.
 pub fn clear_names(names: &mut [u16], n: usize)

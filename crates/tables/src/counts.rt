@@ -5,6 +5,7 @@ ghost use lib.Dec.{leb};
 ghost use Rattle.rules.specs.Constants.{mostCount};
 ghost use Rattle.rules.specs.Tables.{countsFit};
 ghost use Rattle.tables.specs.Lent.{countsTold, tables};
+use bits::limits::MOST_LINES;
 
 // Lines, how much of each lent table is in use, and the value registers.
 pub struct Counts {
@@ -20,8 +21,6 @@ pub struct Counts {
 
 impl Counts {
     pub const MOST: usize = 65535;
-
-    pub const MOST_LINES: usize = 255;
 }
 
 // A count is at most 65,535 and no more than the lent table holds.
@@ -43,7 +42,7 @@ pub fn counts_fit(
     ensures { λ r. ⌜ r ≡ countsFit (tables (now (sections .entry)) (now (instructions .entry)) (now (numbers .entry)) (now (strings .entry)) (now (pool .entry)) (now (names .entry))) (countsTold c) ⌝ }
 {
     (0 < c.lines)
-        & (c.lines <= Counts::MOST_LINES)
+        & (c.lines <= MOST_LINES)
         & (c.lines <= c.sections)
         & (c.values <= Counts::MOST)
         & count_fits(c.sections, sections.len())
