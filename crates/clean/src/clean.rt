@@ -6,29 +6,15 @@ ghost use lib.ListN.{length, take};
 ghost use Rattle.rules.specs.Tables.{all};
 ghost use Rattle.rules.specs.Operations as Operations;
 ghost use Rattle.tables.specs.Lent.{countsTold, tables, answerTold};
-ghost use Rattle.tables.specs.Runs.{fixedWord};
 ghost use Rattle.clean.specs.Pass.{jumpIn};
 use crate::remove_unfixed_sections::remove_unfixed_sections;
 use tables::answer::Answer;
 use tables::check::check;
 use tables::counts::Counts;
+use tables::fixed::all_fixed;
 use tables::word::is_fixed;
 use words::instr::Instruction;
 use words::section::SectionWord;
-
-fn lines_fixed(t: &[u64], n: usize) -> bool
-    requires { ⌜ n ≤ length (now t) ⌝ }
-    ensures { λ r. ⌜ r ≡ all fixedWord (take n (now (t .entry))) ⌝ }
-{
-    let mut i: usize = 0;
-    while i < n {
-        if !is_fixed(SectionWord(t[i])) {
-            return false;
-        }
-        i += 1;
-    }
-    true
-}
 
 // A jump's target is one of the n sections and fixed.
 fn jump_fixed(sections: &[u64], n: usize, w: Instruction) -> bool
@@ -73,7 +59,7 @@ pub fn clean(
     if !check(c, sections, instructions, numbers, strings, pool, names) {
         return Answer::Refused(Answer::BREAKS_RULES);
     }
-    if !lines_fixed(sections, c.lines) {
+    if !all_fixed(sections, c.lines) {
         return Answer::Refused(Answer::NEEDS_UNFIXED);
     }
     if !jumps_fixed(sections, c.sections, instructions, c.instructions) {

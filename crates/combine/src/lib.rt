@@ -20,11 +20,11 @@ ghost use Rattle.tables.specs.Runs.{held};
 ghost use Rattle.join.specs.Held.{Sound};
 ghost use Rattle.combine.specs.Loop.{Combined};
 use crate::refusals::all_ahead;
-use crate::refusals::all_fixed;
 use crate::search::mate;
 use tables::answer::Answer;
 use tables::check::check;
 use tables::counts::Counts;
+use tables::fixed::all_fixed;
 use words::instr::Section;
 use words::instr::Target;
 

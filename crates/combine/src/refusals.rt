@@ -1,32 +1,13 @@
-// The two tests of combine beside the rules of words: 14 where a section is unfixed, 15 where a successor that is no line start lies
-// below its section.
+// The test of combine behind those of words and of fixed sections: 15 where a successor that is no line start lies below its section.
 //
-// Each is shown equal to the test of `rules` on what the words hold, for all words.
+// It is shown equal to the test of `rules` on what the words hold, for all words.
 ghost use mathlib.Core.Path.{_≡_};
 ghost use Prim.Native.Nat.{_≤_, _<_};
 ghost use lib.ListN.{length, take, getD};
-ghost use Rattle.rules.specs.Tables.{all};
-ghost use Rattle.tables.specs.Runs.{fixedWord};
 ghost use Rattle.combine.specs.Tests.{wordAhead, wordsAhead};
 use crate::references::contiguous_to;
-use tables::word::is_fixed;
 use words::instr::Target;
 use words::section::SectionWord;
-
-// Is every one of the first n sections fixed?
-pub fn all_fixed(sections: &[u64], n: usize) -> bool
-    requires { ⌜ n ≤ length (now sections) ⌝ }
-    ensures { λ r. ⌜ r ≡ all fixedWord (take n (now (sections .entry))) ⌝ }
-{
-    let mut i: usize = 0;
-    while i < n {
-        if !is_fixed(SectionWord(sections[i])) {
-            return false;
-        }
-        i += 1;
-    }
-    true
-}
 
 // Is section i's successor a line start, or does it not lie below it?
 fn is_ahead(sections: &[u64], n: usize, i: usize) -> bool

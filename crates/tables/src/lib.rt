@@ -2,6 +2,7 @@
 pub mod answer;
 pub mod check;
 pub mod counts;
+pub mod fixed;
 pub mod shift;
 pub mod text;
 pub mod word;

@@ -24,8 +24,8 @@ returns : tie.Need-returns
 returns c =
     clean-12 _ _ (sym (c .before .check .ensures) ∙ not-true _ (c .if1 .taken))
 
-lines-fixed-requires : tie.Need-lines-fixed-requires
-lines-fixed-requires c κs =
+all-fixed-requires : tie.Need-all-fixed-requires
+all-fixed-requires c κs =
     let k = sound _ _ (sym (c .before .before .check .ensures) ∙ not-false _ (c .before .if1 .left)) .counts in
     let a = k .lines in
     let b = k .sections in
@@ -39,7 +39,7 @@ same-length-4 c = search needs
 
 returns-2 : tie.Need-returns-2
 returns-2 c =
-    clean-lines _ _ (sym (c .before .before .before .before .check .ensures) ∙ not-false _ (c .before .before .before .if1 .left)) _ (c .before .lines-fixed .ensures) (not-true _ (c .if2 .taken))
+    clean-lines _ _ (sym (c .before .before .before .before .check .ensures) ∙ not-false _ (c .before .before .before .if1 .left)) _ (c .before .all-fixed .ensures) (not-true _ (c .if2 .taken))
 
 jumps-fixed-requires : tie.Need-jumps-fixed-requires
 jumps-fixed-requires c κs =
@@ -53,7 +53,7 @@ same-length-6 c = search needs
 
 returns-3 : tie.Need-returns-3
 returns-3 c =
-    clean-jumps _ _ (sym (c .before .before .before .before .before .before .before .before .check .ensures) ∙ not-false _ (c .before .before .before .before .before .before .before .if1 .left)) _ (c .before .before .before .before .before .lines-fixed .ensures) (not-false _ (c .before .before .before .before .if2 .left)) _ (c .before .jumps-fixed .ensures) (not-true _ (c .if3 .taken))
+    clean-jumps _ _ (sym (c .before .before .before .before .before .before .before .before .check .ensures) ∙ not-false _ (c .before .before .before .before .before .before .before .if1 .left)) _ (c .before .before .before .before .before .all-fixed .ensures) (not-false _ (c .before .before .before .before .if2 .left)) _ (c .before .jumps-fixed .ensures) (not-true _ (c .if3 .taken))
 
 remove-unfixed-sections-requires : tie.Need-remove-unfixed-sections-requires
 remove-unfixed-sections-requires c κs =
@@ -70,7 +70,7 @@ same-length-8 c = search needs
 returns-4 : tie.Need-returns-4
 returns-4 c =
     let small : (i : ℕ) → getD (c .before .before .before .before .before .before .before .before .before .before .before .before .before .before .before .before .before .before .before .before .before .before .before .args .strings .now) i 0 < 2 ^ 32 = λ i. omega (arith, c .before .before .before .before .before .before .before .before .before .before .before .before .before .before .before .before .before .before .before .before .shared-slice-known .given i) in
-    clean-done _ _ (sym (c .before .before .before .before .before .before .before .before .before .before .before .before .before .before .before .check .ensures) ∙ not-false _ (c .before .before .before .before .before .before .before .before .before .before .before .before .before .before .if1 .left)) _ (c .before .before .before .before .before .before .before .before .before .before .before .before .lines-fixed .ensures) (not-false _ (c .before .before .before .before .before .before .before .before .before .before .before .if2 .left)) _ (c .before .before .before .before .before .before .before .before .jumps-fixed .ensures) (not-false _ (c .before .before .before .before .before .before .before .if3 .left)) small _ _ _ _ (c .before .before .before .before .remove-unfixed-sections .ensures)
+    clean-done _ _ (sym (c .before .before .before .before .before .before .before .before .before .before .before .before .before .before .before .check .ensures) ∙ not-false _ (c .before .before .before .before .before .before .before .before .before .before .before .before .before .before .if1 .left)) _ (c .before .before .before .before .before .before .before .before .before .before .before .before .all-fixed .ensures) (not-false _ (c .before .before .before .before .before .before .before .before .before .before .before .if2 .left)) _ (c .before .before .before .before .before .before .before .before .jumps-fixed .ensures) (not-false _ (c .before .before .before .before .before .before .before .if3 .left)) small _ _ _ _ (c .before .before .before .before .remove-unfixed-sections .ensures)
 
 pub clean-spec : {M : Type 1} → statement M
 clean-spec =
@@ -80,7 +80,7 @@ clean-spec =
     same-length
     same-length-2
     returns
-    lines-fixed-requires
+    all-fixed-requires
     same-length-3
     same-length-4
     returns-2

@@ -1,4 +1,4 @@
--- `refusals::all_fixed` meets its contract. The loop keeps the test of what is left. Assumes nothing.
+-- `fixed::all_fixed` meets its contract. The loop keeps the test of what is left. Assumes nothing.
 use mathlib.Core.Path.{_≡_, refl, _∙_}
 use Prim.Native.Nat.{_≤_, _-_}
 use lib.Seq.{slice}
@@ -6,10 +6,10 @@ use lib.ListN.{take}
 use borrow.Author.Tests.{not-true, not-false}
 use borrow.Author.Needs.{needs}
 use Rattle.rules.specs.Tables.{all}
 use Rattle.tables.specs.Runs.{fixedWord}
 use Rattle.tables.proofs.Walks.{all-done, all-stop, all-more}
-use Rattle.combine.proofs.refusals.all_fixed.Statement.{statement}
-use Rattle.combine.proofs.refusals.all_fixed.Tie as tie
+use Rattle.tables.proofs.fixed.all_fixed.Statement.{statement}
+use Rattle.tables.proofs.fixed.all_fixed.Tie as tie
 
 abbrev Inv-loop : tie.InvT-loop
 Inv-loop sections n i₀ i = (i ≤ n) × (all fixedWord (slice i n sections) ≡ all fixedWord (take n sections))
