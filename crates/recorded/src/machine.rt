@@ -19,10 +19,26 @@ use crate::rows::spells64;
 use crate::until;
 use tables::counts::Counts;
 
-// The tables by their part of the line.
+// The parts of the line: the counts, then the tables.
+const COUNTS: usize = 0;
+
 pub const SECTIONS: usize = 1;
 
 pub const INSTRUCTIONS: usize = 2;
+
+const NUMBERS: usize = 3;
+
+const STRINGS: usize = 4;
+
+const POOL: usize = 5;
+
+const NAMES: usize = 6;
+
+fn table(text: &[u8], k: usize) -> &[u8] {
+    let from = part(text, k, b'|');
+    let end = until(text, from, b'|');
+    &text[from..end]
+}
 
 // A number of a row.
 fn count(row: &[u8], k: usize) -> usize {
@@ -45,9 +61,7 @@ fn row_counts(row: &[u8]) -> Counts {
 
 // The eight counts of a machine.
 pub fn counts(text: &[u8]) -> Counts {
-    let from = part(text, 0, b'|');
-    let end = until(text, from, b'|');
-    row_counts(&text[from..end])
+    row_counts(table(text, COUNTS))
 }
 
 pub fn same(a: Counts, b: Counts) -> bool {
@@ -65,71 +79,31 @@ pub fn same(a: Counts, b: Counts) -> bool {
 pub fn words_of(text: &[u8], k: usize, out: &mut [u64]) -> usize
     ensures { λ r. ⌜ (r ≤ length (now (out .exit))) × (r ≡ length (take r (now (out .exit)))) ⌝ }
 {
-    let from = part(text, k, b'|');
-    let end = until(text, from, b'|');
-    read64(&text[from..end], out)
+    read64(table(text, k), out)
 }
 
 pub fn numbers_of(text: &[u8], out: &mut [i64]) -> usize
     ensures { λ r. ⌜ (r ≤ length (now (out .exit))) × (r ≡ length (take r (now (out .exit)))) ⌝ }
 {
-    let from = part(text, 3, b'|');
-    let end = until(text, from, b'|');
-    read_signed(&text[from..end], out)
+    read_signed(table(text, NUMBERS), out)
 }
 
 pub fn strings_of(text: &[u8], out: &mut [u32]) -> usize
     ensures { λ r. ⌜ (r ≤ length (now (out .exit))) × (r ≡ length (take r (now (out .exit)))) ⌝ }
 {
-    let from = part(text, 4, b'|');
-    let end = until(text, from, b'|');
-    read32(&text[from..end], out)
+    read32(table(text, STRINGS), out)
 }
 
 pub fn pool_of(text: &[u8], out: &mut [u8]) -> usize
     ensures { λ r. ⌜ (r ≤ length (now (out .exit))) × (r ≡ length (take r (now (out .exit)))) ⌝ }
 {
-    let from = part(text, 5, b'|');
-    let end = until(text, from, b'|');
-    bytes(&text[from..end], out)
+    bytes(table(text, POOL), out)
 }
 
 pub fn names_of(text: &[u8], out: &mut [u16]) -> usize
     ensures { λ r. ⌜ (r ≤ length (now (out .exit))) × (r ≡ length (take r (now (out .exit)))) ⌝ }
 {
-    let from = part(text, 6, b'|');
-    let end = until(text, from, b'|');
-    read16(&text[from..end], out)
-}
-
-fn has_words(text: &[u8], k: usize, t: &[u64]) -> bool {
-    let from = part(text, k, b'|');
-    let end = until(text, from, b'|');
-    spells64(&text[from..end], t)
-}
-
-fn has_numbers(text: &[u8], t: &[i64]) -> bool {
-    let from = part(text, 3, b'|');
-    let end = until(text, from, b'|');
-    spells_signed(&text[from..end], t)
-}
-
-fn has_strings(text: &[u8], t: &[u32]) -> bool {
-    let from = part(text, 4, b'|');
-    let end = until(text, from, b'|');
-    spells32(&text[from..end], t)
-}
-
-fn has_pool(text: &[u8], t: &[u8]) -> bool {
-    let from = part(text, 5, b'|');
-    let end = until(text, from, b'|');
-    spells_bytes(&text[from..end], t)
-}
-
-fn has_names(text: &[u8], t: &[u16]) -> bool {
-    let from = part(text, 6, b'|');
-    let end = until(text, from, b'|');
-    spells16(&text[from..end], t)
+    read16(table(text, NAMES), out)
 }
 
 // Are these just the words of the recorded tables?
@@ -142,12 +116,12 @@ pub fn has_tables(
     pool: &[u8],
     names: &[u16],
 ) -> bool {
-    has_words(text, SECTIONS, sections)
-        & has_words(text, INSTRUCTIONS, instructions)
-        & has_numbers(text, numbers)
-        & has_strings(text, strings)
-        & has_pool(text, pool)
-        & has_names(text, names)
+    spells64(table(text, SECTIONS), sections)
+        & spells64(table(text, INSTRUCTIONS), instructions)
+        & spells_signed(table(text, NUMBERS), numbers)
+        & spells32(table(text, STRINGS), strings)
+        & spells_bytes(table(text, POOL), pool)
+        & spells16(table(text, NAMES), names)
 }
 
 // Are these the words of the recorded tables, as many as are counted?
