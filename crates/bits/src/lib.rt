@@ -153,7 +153,7 @@ pub fn begin(s: &[u8], c: Cursor, w: usize, more: usize, depth: usize) -> Step
 
 // w bits are there, and are passed over.
 pub fn pass(s: &[u8], c: Cursor, w: usize) -> Step
-    requires { ⌜ (Fine (now s) c) × (w ≤ 1024) ⌝ }
+    requires { ⌜ Fine (now s) c ⌝ }
     ensures { λ r. ⌜ Passes w (now (s .entry)) c r ⌝ }
 {
     if s.len() * BYTE_BITS - c.pos < w {

@@ -35,7 +35,7 @@ pub const LINE_COUNTS: u64 = 64;
 // A file of so few bytes is read by a smaller table, which takes less time to clear: a node takes two bits at least.
 pub const SMALL_BYTES: usize = 64;
 
-pub const SMALL_NODES: usize = 256;
+pub const SMALL_NODES: usize = 4 * SMALL_BYTES;
 
 // What is counted of a tree.
 pub struct Sizes {
