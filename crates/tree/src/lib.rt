@@ -5,17 +5,18 @@
 ghost use mathlib.Core.Path.{_≡_};
 ghost use Prim.Native.Nat.{_≤_, _<_, _*_, _+_};
 ghost use lib.ListN.{length};
-ghost use Rattle.rules.specs.Constants.{mostBytes, mostLines};
+ghost use Rattle.rules.specs.Constants.{mostBytes, mostLines, mostDepth};
 ghost use Rattle.rules.specs.Parse.{fill as fillS};
 ghost use Rattle.rules.specs.Operations.{size as sizeS};
 ghost use Rattle.bits.specs.Reads.{Fine, Takes};
-ghost use Rattle.nodes.specs.Builds.{Ready, mostNodesOf};
+ghost use Rattle.nodes.specs.Builds.{Ready, ReadsList, mostNodesOf};
 ghost use Rattle.tree.specs.Files.{LinesRead, HeadRead, FileRead, TreeRead, sizeRes};
 use bits::Cursor;
 use bits::Step;
 use bits::limits::BYTE_BITS;
 use bits::limits::FORM;
 use bits::limits::HEAD_BITS;
+use bits::limits::LIST_BITS;
 use bits::limits::MOST_BYTES;
 use bits::limits::MOST_DEPTH;
 use bits::limits::MOST_LINES;
@@ -70,6 +71,21 @@ fn fill(s: &[u8], c: Cursor) -> Step
     Step::Next(LEFT_OVER, c)
 }
 
+// A line's statements; answers their count. An empty line is read here, since many lines of a short script are.
+fn read_line(s: &[u8], t: &mut [u64], c: Cursor, names: u64) -> Step
+    requires { ⌜ Ready (now s) (now t) c names ⌝ }
+    ensures { λ r. ⌜ ReadsList (now (s .entry)) (now (t .entry)) (now (t .exit)) c names mostDepth r ⌝ }
+{
+    let r = bits::take(s, c, LIST_BITS);
+    let Step::Next(count, d) = r else {
+        return r;
+    };
+    if count == 0 {
+        return Step::Next(count, d);
+    }
+    nodes::read_list(s, t, c, names, MOST_DEPTH)
+}
+
 // The lines: of each its count of statements and its first node are kept in one word.
 fn read_lines(s: &[u8], t: &mut [u64], ls: &mut [u64], c: Cursor, names: u64, lines: usize) -> Step
     requires { ⌜ (Ready (now s) (now t) c names) × (lines ≤ length (now ls)) ⌝ }
@@ -78,7 +94,7 @@ fn read_lines(s: &[u8], t: &mut [u64], ls: &mut [u64], c: Cursor, names: u64, li
     let mut d = c;
     let mut k: usize = 0;
     while k < lines {
-        let r = nodes::read_list(s, t, d, names, MOST_DEPTH);
+        let r = read_line(s, t, d, names);
         let Step::Next(count, e) = r else {
             return r;
         };

@@ -20,8 +20,8 @@ loop-holds : tie.Need-loop-holds Inv-loop μ-loop
 loop-holds c =
     (refl, (refl, (omega arith, lines-start _ _ _ _ _ _ (c .before .before .before .pre .0 .fine))))
 
-read-list-requires : tie.Need-read-list-requires Inv-loop μ-loop
-read-list-requires c κs =
+read-line-requires : tie.Need-read-line-requires Inv-loop μ-loop
+read-line-requires c κs =
     let p = c .before .before .before .before .before .before .pre .0 in
     let m = c .before .before .loop .inv in
     record { fine = m .1 .1 .1 .fine; room = omega arith; names = p .names }
@@ -41,7 +41,7 @@ same-length-2 c = search needs
 returns : tie.Need-returns Inv-loop μ-loop
 returns c =
     let e = c .enum-told .given .1 in
-    let g = lines-stop (c .before .before .before .before .before .before .before .loop .inv .1 .1 .1) (c .before .before .before .before .before .before .loop-test .taken) (unbuilt (c .before .before .before .before .read-list .ensures) e) in
+    let g = lines-stop (c .before .before .before .before .before .before .before .loop .inv .1 .1 .1) (c .before .before .before .before .before .before .loop-test .taken) (unbuilt (c .before .before .before .before .read-line .ensures) e) in
     rw e (record { here = g })
 
 mul-w : tie.Need-mul-w Inv-loop μ-loop
@@ -52,7 +52,7 @@ mul-w c =
 add-w : tie.Need-add-w Inv-loop μ-loop
 add-w c =
     let f = c .before .before .before .before .before .before .before .before .loop .inv .1 .1 .1 .fine in
-    let v = built (c .before .before .before .before .before .read-list .ensures) (c .before .r .given .1) .holds .few in
+    let v = built (c .before .before .before .before .before .read-line .ensures) (c .before .r .given .1) .holds .few in
     omega arith
 
 mul-ls : tie.Need-mul-ls Inv-loop μ-loop
@@ -71,8 +71,8 @@ loop-again : tie.Need-loop-again Inv-loop μ-loop
 loop-again c =
     let m = c .before .before .before .before .before .before .before .before .loop .inv in
     let h = c .before .before .before .before .before .before .before .loop-test .taken in
-    let x = built (c .before .before .before .before .before .read-list .ensures) (c .before .r .given .1) in
-    let k = c .before .before .before .before .before .read-list .kept in
+    let x = built (c .before .before .before .before .before .read-line .ensures) (c .before .r .given .1) in
+    let k = c .before .before .before .before .before .read-line .kept in
     (omega arith, (simp length-set (m .1 .0), (omega arith, lines-more (m .1 .1 .1) _ h (omega arith) refl x)))
 
 same-length-3 : tie.Need-same-length-3 Inv-loop μ-loop
@@ -93,7 +93,7 @@ read-lines-spec =
     Inv-loop
     μ-loop
     loop-holds
-    read-list-requires
+    read-line-requires
     enum-known-r
     enum-told
     same-length
