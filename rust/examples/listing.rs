@@ -28,26 +28,68 @@ fn of_hex(text: &str) -> Option<Vec<u8>> {
     Some(digits.chunks(2).map(|pair| 16 * pair[0] + pair[1]).collect())
 }
 
-/// A section, and which line it begins.
-fn place(machine: &Machine, section: Section) -> String {
-    let starts = usize::from(section.0) < machine.lines();
-    let line = if starts { format!(", line {}", section.0 + 1) } else { String::new() };
-    format!("{section}{line}")
+/// Where a section may lead.
+fn targets(section: SectionCode) -> Vec<Section> {
+    let next = match section.success {
+        Success::Section(next) => Some(next),
+        Success::Line(_) | Success::Unfixed => None,
+    };
+    section.instructions().flatten().filter_map(|code| code.target()).chain(next).collect()
 }
 
-fn instruction(machine: &Machine, instruction: Instruction) -> String {
-    match instruction {
-        Instruction::JumpSectionIf(section, n) => format!("JumpSectionIf {n} -> {}", place(machine, section)),
-        Instruction::JumpIfError(section) => format!("JumpIfError -> {}", place(machine, section)),
-        other => other.to_string(),
+/// A machine, and of each section the line that it belongs to, as the sections that lead to it do; none behind a goto.
+struct Listing {
+    machine: Machine,
+    lines: Vec<Option<usize>>,
+}
+
+impl Listing {
+    fn of(machine: Machine) -> Self {
+        let mut lines: Vec<Option<usize>> = machine.sections().map(|_| None).collect();
+        for line in 0..machine.lines() {
+            let mut open = vec![Section(line as u16)];
+            while let Some(section) = open.pop() {
+                let i = usize::from(section.0);
+                if lines[i].is_none() && (i == line || i >= machine.lines()) {
+                    lines[i] = Some(line);
+                    open.extend(machine.section(section).map(targets).unwrap_or_default());
+                }
+            }
+        }
+        Listing { machine, lines }
     }
-}
 
-fn success(machine: &Machine, success: Success) -> String {
-    match success {
-        Success::Section(section) => place(machine, section),
-        Success::Line(n) => format!("the line of {n}"),
-        Success::Unfixed => "nowhere".into(),
+    fn place(&self, section: Section) -> String {
+        match self.lines[usize::from(section.0)] {
+            Some(line) => format!("{section}, line {}", line + 1),
+            None => format!("{section}, not linked"),
+        }
+    }
+
+    fn instruction(&self, instruction: Instruction) -> String {
+        match instruction {
+            Instruction::JumpSectionIf(section, n) => format!("JumpSectionIf {n} -> {}", self.place(section)),
+            Instruction::JumpIfError(section) => format!("JumpIfError -> {}", self.place(section)),
+            other => other.to_string(),
+        }
+    }
+
+    fn success(&self, success: Success) -> String {
+        match success {
+            Success::Section(section) => self.place(section),
+            Success::Line(n) => format!("the line of {n}"),
+            Success::Unfixed => "nowhere".into(),
+        }
+    }
+
+    fn print(&self) {
+        for section in self.machine.sections() {
+            println!("\n{}", self.place(section.number));
+            for code in section.instructions() {
+                println!("    {}", code.map_or("no instruction".into(), |code| self.instruction(code)));
+            }
+            println!("    -> {}", self.success(section.success));
+        }
     }
 }
 
@@ -71,16 +113,6 @@ fn print_registers(machine: &Machine, names: &[Ident]) {
     println!("{} values", machine.values());
 }
 
-fn print_sections(machine: &Machine) {
-    for section in machine.sections() {
-        println!("\n{}", place(machine, section.number));
-        for code in section.instructions() {
-            println!("    {}", code.map_or("no instruction".into(), |code| instruction(machine, code)));
-        }
-        println!("    -> {}", success(machine, section.success));
-    }
-}
-
 fn main() -> Result<(), Error> {
     let packed = match std::env::args().nth(1) {
         None => sample().pack()?,
@@ -89,6 +121,6 @@ fn main() -> Result<(), Error> {
     let all = CodegenOptions { protect_locals: true, protect_globals: true };
     let machine = Machine::finish(&packed.bytes, all)?;
     print_registers(&machine, &packed.names);
-    print_sections(&machine);
+    Listing::of(machine).print();
     Ok(())
 }
