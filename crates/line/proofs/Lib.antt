@@ -1,3 +1,2 @@
-pub mod Firsts
 pub mod Parts
 pub mod Sums

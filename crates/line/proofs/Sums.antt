@@ -1,31 +1,29 @@
 -- The instructions of an expression are those of its nodes. Assumes nothing.
 use mathlib.Core.Path.{_≡_, refl, sym, ap, _∙_}
-use mathlib.Core.Bool.{Bool, true, false, cond}
+use mathlib.Core.Bool.{Bool, false}
 use mathlib.Core.List.{List}
-use Prim.Native.Nat.{ℕ, zero, suc, _+_, _-_, _*_, _/_, _%_, _≤_, _<_}
+use Prim.Native.Nat.{ℕ, zero, suc, _+_, _-_, _/_, _%_, _≤_, _<_}
 use native.Mathlib.Omega.{arith}
 use native.Mathlib.Nat.{add-zero}
-use native.Mathlib.Numerals.{add-one}
-use lib.Dec.{eqb}
-use lib.ListN.{length, getD, getElem?}
-use borrow.Author.Tests.{eq-eqb, ne-eqb}
+use lib.ListN.{length, getD}
 use Rattle.rules.specs.Constants.{mostBytes}
-use Rattle.rules.specs.Tree.{Expr, Gt, Atan, PowTo, Binop, Unop, Block, end, ite, assign}
-use Rattle.rules.specs.Parse.{binops, unops, assignops}
-use Rattle.nodes.specs.Words.{wordOf, binopKind, unopKind, incdecKind, identKind, numberKind, stringKind, gotoKind, stepKind, assignKind, iteKind}
+use Rattle.rules.specs.Tree.{Expr, Gt, Atan, Binop, Unop, Block, end, ite, assign}
+use Rattle.rules.specs.Parse.{binops, unops}
+use Rattle.nodes.specs.Words.{binopKind, unopKind, incdecKind, identKind, numberKind, stringKind, gotoKind, stepKind, assignKind, iteKind}
 use Rattle.nodes.proofs.Blocks.{is-end, is-step, tag, kind-held}
 use Rattle.stmts.specs.Lists.{isEnd, only}
 use Rattle.stmts.proofs.Splits.{split}
 use Rattle.stmts.proofs.Places.{goto-at, step-at, assign-at, ite-at, empty-same, not-end}
 use Rattle.nodes.specs.Holds.{HoldsE, HoldsB, at-binop, at-unop, at-incdec, at-ident, at-number, at-string}
-use Rattle.nodes.proofs.Words.{Fits, unpacked}
+use Rattle.nodes.proofs.Words.{unpacked}
 use Rattle.nodes.proofs.Table.{grows}
 use Rattle.nodes.proofs.Exprs.{op-small}
 use Rattle.codegen.specs.Costs.{binopCost, unopCost}
 use Rattle.codegen.proofs.Lists.{found}
 use Rattle.exprs.specs.Exprs.{exprCost}
 use Rattle.stmts.specs.Makes.{jumpCost}
-use Rattle.line.specs.Costs.{kindCost, nodeCost, costs, ownCost}
+use Rattle.stmts.specs.Parts.{ownCost}
+use Rattle.line.specs.Costs.{kindCost, nodeCost, costs}
 
 -- ---- ranges
 

@@ -1,15 +1,13 @@
 -- How many instructions a node gives by its word, and the nodes of a range. The first sections of all lines stand first in the table of
 -- instructions, so their own instructions are counted before lowering starts.
-use mathlib.Core.Bool.{Bool, true, false, cond}
+use mathlib.Core.Bool.{cond}
 use mathlib.Core.List.{List}
 use Prim.Native.Nat.{ℕ, zero, suc, _+_, _/_, _%_, _≤_, _<_}
 use lib.Dec.{eqb}
 use lib.ListN.{length, getD}
 use Rattle.rules.specs.Constants.{mostBytes}
 use Rattle.nodes.specs.Holds.{HoldsB}
-use Rattle.exprs.specs.Exprs.{exprCost}
-use Rattle.stmts.specs.Lists.{isEnd}
-use Rattle.rules.specs.Tree.{Gt, Atan, PowTo, Block, end, ite, assign}
+use Rattle.rules.specs.Tree.{Gt, Atan, PowTo, Block}
 use Rattle.rules.specs.Parse.{binops, unops, assignops}
 use Rattle.nodes.specs.Words.{binopKind, unopKind, assignKind, identKind, numberKind, stringKind, iteKind}
 use Rattle.codegen.specs.Costs.{binopCost, unopCost}
@@ -31,14 +29,6 @@ nodeCost w = kindCost (w % 16) (w / 16 % 16) (w / 256 % 256)
 unfoldable pub costs : List ℕ → ℕ → ℕ → ℕ
 costs t i zero = 0
 costs t i (suc n) = nodeCost (getD t i 0) + costs t (i + 1) n
-
--- of a list's first statement, without the lists that it holds
-unfoldable pub ownCost : Block → ℕ
-ownCost end = 0
-ownCost (Block.goto e xs) = exprCost e + 2
-ownCost (ite e x y xs) = exprCost e + 1 + jumpCost (isEnd x)
-ownCost (Block.incdec i x xs) = 2
-ownCost (assign x o e xs) = exprCost e + assignCost o
 
 -- a list with a statement is held at node i
 pub record ListAt (t : List ℕ) (i : ℕ) : Type 0 where

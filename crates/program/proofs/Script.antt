@@ -30,7 +30,7 @@ use Rattle.codegen.proofs.Lists.{map-append, length-map}
 use Rattle.stmts.specs.Makes.{Regs}
 use Rattle.stmts.proofs.Makes.{regs-moved}
 use Rattle.stmts.proofs.Lists.{all-append, runs-append, runs-length, made-width}
-use Rattle.line.specs.Costs.{ownCost}
+use Rattle.stmts.specs.Parts.{ownCost}
 use Rattle.line.specs.Lines.{innerNodes, Parted, LineSpent, LineWent, LineDone}
 use Rattle.program.specs.Script.{ownCosts, innerAll, aimedAt, CostsMid, LinesReady, LinesWent, LinesDone, LinesMid, SameLengths}
 use Rattle.line.proofs.Parts.{own-most}

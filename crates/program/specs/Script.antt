@@ -16,7 +16,7 @@ use Rattle.words.specs.declared.instr.Section.{Section}
 use Rattle.codegen.specs.Does.{Lent}
 use Rattle.stmts.specs.Makes.{Regs, placed}
 use Rattle.stmts.specs.Lists.{Ample}
-use Rattle.line.specs.Costs.{ownCost}
+use Rattle.stmts.specs.Parts.{ownCost}
 use Rattle.line.specs.Lines.{innerNodes, Parted, LineSpent}
 
 -- the own instructions of the lines' first statements, and the nodes behind those

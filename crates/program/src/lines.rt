@@ -11,7 +11,7 @@ ghost use Rattle.rules.specs.Tree.{Block};
 ghost use Rattle.rules.specs.Assemble.{nextLine};
 ghost use Rattle.nodes.specs.Holds.{HoldsB};
 ghost use Rattle.tree.specs.Files.{HoldsL};
-ghost use Rattle.line.specs.Costs.{ownCost};
+ghost use Rattle.stmts.specs.Parts.{ownCost};
 ghost use Rattle.codegen.specs.Does.{lent};
 ghost use Rattle.program.specs.Script.{ownCosts, aimedAt, HeadReady, LinesAt, LinesReady, LinesDone};
 use bits::limits::MOST_NODES;

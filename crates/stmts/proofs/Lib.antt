@@ -3,3 +3,4 @@ pub mod Makes
 pub mod Lists
 pub mod Splits
 pub mod Places
+pub mod Parts

@@ -2,30 +2,27 @@
 use mathlib.Core.Path.{_≡_, refl, sym, ap, _∙_}
 use mathlib.Core.Bool.{Bool, true, false, cond}
 use mathlib.Core.List.{List, [], _∷_, _++_, map, append-assoc}
-use Prim.Native.Nat.{ℕ, suc, _+_, _*_, _-_, _<_, _≤_, max}
+use Prim.Native.Nat.{ℕ, suc, _+_, _-_, _≤_, max}
 use native.Mathlib.Nat.{add-zero, add-assoc}
 use native.Mathlib.Numerals.{add-one}
 use native.Mathlib.Omega.{arith}
 use lib.ListN.{length, set, length-append}
-use lib.Seq.{sets}
-use Rattle.rules.specs.Instr.{Instruction}
 use Rattle.rules.specs.Word.{insWord, runWord}
-use Rattle.rules.specs.Tree.{Block, end, ite, assign, Expr, Assignop}
-use Rattle.rules.specs.Machine.{SectionOrLine, section, line, SectionCode}
+use Rattle.rules.specs.Tree.{Block, end, ite, assign}
+use Rattle.rules.specs.Machine.{SectionOrLine, section, SectionCode}
 use Rattle.rules.specs.Tables.{runOf, runWords, allCode}
 use Rattle.rules.specs.Script.{Stmts, nil, plain, isNil}
 use Rattle.rules.specs.Assemble.{orOne, sectionsMade, entry, link, inner, orEmpty, stmtSections, ownCode, condCode}
 use Rattle.rules.specs.CodegenData.{CodegenData, scoped}
-use Rattle.rules.specs.Annotate.{annotateStmts, condition, lineNumber, codegenFromAssign}
-use Rattle.rules.specs.Operators.{codegenIncdec}
-use Rattle.walks.specs.LowerWalk.{length-low, length-orEmpty}
+use Rattle.rules.specs.Annotate.{annotateStmts, condition}
+use Rattle.walks.specs.LowerWalk.{length-low}
 use Rattle.words.specs.Runs as Runs
 use Rattle.nodes.specs.Width.{width, orOne as orOneN}
 use Rattle.codegen.specs.declared.state.Counters.{Counters}
 use Rattle.codegen.specs.Does.{Lent}
 use Rattle.codegen.proofs.Lists.{sets-sets, map-append, length-map}
-use Rattle.stmts.specs.Makes.{Stored, Makes, made, jump, nothing}
-use Rattle.stmts.specs.Lists.{Wrote, only, rest, before, onward, onwardB, isEnd, Single, Listed, Lists, Branched, Branch}
+use Rattle.stmts.specs.Makes.{Stored}
+use Rattle.stmts.specs.Lists.{Wrote, only, rest, before, onward, onwardB, isEnd, Single, Lists, Branch}
 
 pub append-nil : {A : Type 0} (l : List A) → l ++ [] ≡ l
 append-nil [] = refl
@@ -119,7 +116,7 @@ nil-same (assign x o e xs) g = refl
 
 -- ---- widths
 
-some-width : (x : Block) → isEnd x ≡ false → 1 ≤ width x
+pub some-width : (x : Block) → isEnd x ≡ false → 1 ≤ width x
 unfolding width
 some-width end h = absurd (let z : _≡_ {A = ℕ} 0 1 = cc in omega arith)
 some-width (Block.goto e xs) h = omega arith
@@ -183,7 +180,7 @@ lists-more x {l} {n} {n'} {h} {k} {l'} s p q r a z =
 -- ---- an Ite
 
 -- a section without instructions
-pub stored-empty : {s : SectionOrLine} {n k : ℕ} {is se se' : List ℕ} {w : ℕ} → se' ≡ set se n w → w ≡ runWord (Runs.runOf false s k (k - k)) → Stored (inner [] s) n k k is is se se'
+pub stored-empty : {l : Bool} {s : SectionOrLine} {n k : ℕ} {is se se' : List ℕ} {w : ℕ} → se' ≡ set se n w → w ≡ runWord (Runs.runOf l s k (k - k)) → Stored (record { lineStart = l; instrs = []; success = s }) n k k is is se se'
 unfolding runOf
 stored-empty {n = n} {k = k} {se = se} p q =
     let z : k - k ≡ 0 = omega arith in
@@ -204,52 +201,3 @@ branch-list x {n} {j} {c} {c'} {t} {t'} {se} {se'} h d =
   where
     chosen : (y : Bool) (a s : List SectionCode) → y ≡ false → Wrote s n (c .at) (c' .at) (t .instrs) (t' .instrs) se se' → Wrote (cond y a s) n (c .at) (c' .at) (t .instrs) (t' .instrs) se se'
     chosen y a s e w = rw e w
-
-pub ite-sections : (l : Bool) (e n k nf nj : ℕ) (o : List Instruction) (r : ℕ) (x y : Stmts) (z : Bool) → isNil x ≡ z → suc n + orOne x (sectionsMade x) ≡ nf → nf + orOne y (sectionsMade y) ≡ nj
-    → stmtSections l e n k (Stmts.ite o r x y nil) ≡ (made false (jump z (suc n)) (λ _. section nf) e (o, r) ∷ []) ++ (orEmpty x nj (stmtSections true e (suc n) nj x) ++ (orEmpty y nj (stmtSections true e nf nj y) ++ (inner [] (link l k) ∷ [])))
-ite-sections l e n k nf nj o r x y z h p q = rw (← q, ← p, ← h)
-
-pub lists-ite : {m : ℕ} (v : Expr) (x y : Block) {l : Bool} {n k nf nj : ℕ} {c c1 c2 c3 : Counters} {t t1 t2 t3 : Lent} {se se1 se2 se3 se4 : List ℕ}
-    → nf ≡ suc n + orOneN (width x) → nj ≡ nf + orOneN (width y)
-    → Makes m (condition v) false (jump (isEnd x) (suc n)) (λ _. section nf) n c t t1 se se1 c1
-    → Branch m x (suc n) nj c1 t1 t2 se1 se2 c2 → Branch m y nf nj c2 t2 t3 se2 se3 c3
-    → Stored (inner [] (link l k)) nj (c3 .at) (c3 .at) (t3 .instrs) (t3 .instrs) se3 se4 → Lists m (ite v x y end) l n k c t t3 se se4 c3
-unfolding annotateStmts
-lists-ite v x y {l} {n} {k} {nf} {nj} p q a u w s =
-    record {
-      from = λ e b g r.
-          let a1 = a .from e b g r in
-          let g1 = scoped (condition v) g .1 in
-          let u1 = u .from e b g1 (a1 .regs) in
-          let g2 = annotateStmts x g1 .1 in
-          let w1 = w .from e b g2 (u1 .regs) in
-          let s1 = annotateStmts x g1 .0 in
-          let s2 = annotateStmts y g2 .0 in
-          let p1 : suc n + orOne s1 (sectionsMade s1) ≡ nf = ap (λ (i : ℕ). suc n + i) (or-width x g1) ∙ sym p in
-          let q1 : nf + orOne s2 (sectionsMade s2) ≡ nj = ap (λ (i : ℕ). nf + i) (or-width y g2) ∙ sym q in
-          record {
-            regs = w1 .regs;
-            wrote = rw (ite-sections l e n k nf nj (scoped (condition v) g .0 .0) (scoped (condition v) g .0 .1) s1 s2 (isEnd x) (nil-same x g1) p1 q1)
-                (wrote-more (wrote-one (a1 .stored)) (sym (add-one n))
-                (wrote-more (u1 .wrote) (sym p1 ∙ ap (λ (i : ℕ). suc n + i) (sym (length-orEmpty s1 nj (stmtSections true e (suc n) nj s1) (length-low true e (suc n) nj s1))))
-                (wrote-more (w1 .wrote) (sym q1 ∙ ap (λ (i : ℕ). nf + i) (sym (length-orEmpty s2 nj (stmtSections true e nf nj s2) (length-low true e nf nj s2)))) (wrote-one s))));
-          };
-    }
-
--- ---- the other statements
-
--- own instructions with nothing behind
-plain-wrote : (e : ℕ) (o : List Instruction) (s : SectionOrLine) {n k k' : ℕ} {is is' se se' : List ℕ} → Stored (record { lineStart = false; instrs = ownCode e o ++ []; success = s }) n k k' is is' se se' → Wrote (inner (ownCode e o) s ∷ []) n k k' is is' se se'
-plain-wrote e o s r = rw append-nil at (wrote-one r)
-
-pub lists-goto : {m : ℕ} (v : Expr) {l : Bool} {n k : ℕ} {c c' : Counters} {t t' : Lent} {se se' : List ℕ} → Makes m (lineNumber v) false nothing line n c t t' se se' c' → Lists m (Block.goto v end) l n k c t t' se se' c'
-unfolding annotateStmts
-lists-goto v a = record { from = λ e b g r. let u = a .from e b g r in record { regs = u .regs; wrote = plain-wrote e (scoped (lineNumber v) g .0 .0) _ (u .stored) } }
-
-pub lists-step : {m : ℕ} (i : Bool) (x : ℕ) {l : Bool} {n k : ℕ} {c c' : Counters} {t t' : Lent} {se se' : List ℕ} → Makes m (codegenIncdec i x) false nothing (λ _. link l k) n c t t' se se' c' → Lists m (Block.incdec i x end) l n k c t t' se se' c'
-unfolding annotateStmts
-lists-step i x a = record { from = λ e b g r. let u = a .from e b g r in record { regs = u .regs; wrote = plain-wrote e (scoped (codegenIncdec i x) g .0 .0) _ (u .stored) } }
-
-pub lists-assign : {m : ℕ} (x : ℕ) (o : Assignop) (v : Expr) {l : Bool} {n k : ℕ} {c c' : Counters} {t t' : Lent} {se se' : List ℕ} → Makes m (codegenFromAssign x o v) false nothing (λ _. link l k) n c t t' se se' c' → Lists m (assign x o v end) l n k c t t' se se' c'
-unfolding annotateStmts
-lists-assign x o v a = record { from = λ e b g r. let u = a .from e b g r in record { regs = u .regs; wrote = plain-wrote e (scoped (codegenFromAssign x o v) g .0 .0) _ (u .stored) } }

@@ -1,35 +1,26 @@
 -- What a statement's word says, field by field; entries of lists. Assumes nothing.
 use mathlib.Core.Path.{_≡_, refl, sym, ap, _∙_}
-use mathlib.Core.Bool.{Bool, true, false, cond}
-use mathlib.Core.List.{List, []}
-use mathlib.Core.Option.{some}
-use Prim.Native.Nat.{ℕ, suc, _+_, _*_, _-_, _/_, _%_, _<_, _≤_, max}
-use native.Mathlib.Numerals.{add-one}
+use mathlib.Core.Bool.{Bool, false, cond}
+use mathlib.Core.List.{List}
+use Prim.Native.Nat.{ℕ, _+_, _*_, _-_, _/_, _%_, _<_, _≤_}
 use native.Mathlib.Omega.{arith}
 use lib.Dec.{eqb}
-use lib.ListN.{length, getD, getElem?}
+use lib.ListN.{length, getD}
 use borrow.Author.Tests.{eq-eqb, ne-eqb}
 use Rattle.rules.specs.Constants.{mostBytes}
 use Rattle.rules.specs.Bits.{isOne}
 use Rattle.rules.specs.Tree.{Block, end, goto, ite, assign, Expr, Assignop, PowTo, ofBlock, ofExpr, statement, node, both, none}
 use Rattle.rules.specs.Parse.{assignops}
-use Rattle.rules.specs.Machine.{section}
-use Rattle.rules.specs.Assemble.{inner, link}
-use Rattle.rules.specs.Annotate.{condition}
-use Rattle.nodes.specs.Words.{wordOf, iteKind, gotoKind, stepKind, assignKind}
+use Rattle.nodes.specs.Words.{iteKind, gotoKind, stepKind, assignKind}
 use Rattle.nodes.specs.Width.{width, orOne}
-use Rattle.nodes.specs.Holds.{HoldsE, HoldsB, Flag, at-end, at-goto, at-ite, at-step, at-assign}
-use Rattle.nodes.proofs.Words.{Fits, Unpacked, unpacked}
+use Rattle.nodes.specs.Holds.{HoldsE, HoldsB, at-end, at-goto, at-ite, at-step, at-assign}
+use Rattle.nodes.proofs.Words.{unpacked}
 use Rattle.nodes.proofs.Table.{grows, grows-b}
 use Rattle.nodes.proofs.Exprs.{op-small}
 use Rattle.nodes.proofs.Blocks.{is-end, is-goto, is-ite, is-step, is-assign, tag, kind-held}
-use Rattle.codegen.specs.declared.state.Counters.{Counters}
-use Rattle.codegen.specs.Does.{Lent}
 use Rattle.codegen.proofs.Lists.{found}
 use Rattle.exprs.proofs.Trees.{last-held}
-use Rattle.stmts.specs.Makes.{Makes, Stored, jump}
-use Rattle.stmts.specs.Lists.{Lists, Branch, isEnd, entryBy, deep}
-use Rattle.stmts.proofs.Lists.{lists-ite}
+use Rattle.stmts.specs.Lists.{isEnd, entryBy, deep}
 
 pub some-of : (n : ℕ) → (n ≡ 0 → ⊥) → 0 < n
 some-of n h = omega arith
@@ -192,16 +183,6 @@ pub record Sum (e : Expr) (x y b : Block) : Type 0 where
 pub ite-sum : (e : Expr) (x y b : Block) → b ≡ ite e x y end → Sum e x y b
 unfolding ofBlock statement node both none width deep
 ite-sum e x y b q = rw q (record { nodes = omega arith; strings = omega arith; characters = omega arith; widths = omega arith; deep-then = omega arith; deep-else = omega arith })
-
--- an Ite whose first list's number is one more
-pub ite-lists : {m : ℕ} (v : Expr) (x y : Block) {l z : Bool} {n n1 k nf nj : ℕ} {c c1 c2 c3 : Counters} {t t1 t2 t3 : Lent} {se se1 se2 se3 se4 : List ℕ}
-    → n1 ≡ n + 1 → z ≡ isEnd x → nf ≡ n1 + orOne (width x) → nj ≡ nf + orOne (width y)
-    → Makes m (condition v) false (jump z n1) (λ _. section nf) n c t t1 se se1 c1
-    → Branch m x n1 nj c1 t1 t2 se1 se2 c2 → Branch m y nf nj c2 t2 t3 se2 se3 c3
-    → Stored (inner [] (link l k)) nj (c3 .at) (c3 .at) (t3 .instrs) (t3 .instrs) se3 se4 → Lists m (ite v x y end) l n k c t t3 se se4 c3
-ite-lists {m} v x y {l} {z} {n} {n1} p q r o a u w s =
-    let e : n1 ≡ suc n = p ∙ add-one n in
-    lists-ite v x y (rw e at r) o (rw (e, q) at a) (rw e at u) w s
 
 -- a statement with an expression and no lists, and one without either
 pub record One (n s h : ℕ) (b : Block) : Type 0 where

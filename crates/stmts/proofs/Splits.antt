@@ -1,19 +1,19 @@
 -- A list in the node table: its first statement and the others. Assumes nothing.
 use mathlib.Core.Path.{_≡_, refl, sym, ap, _∙_}
-use mathlib.Core.Bool.{Bool, true, false, cond}
+use mathlib.Core.Bool.{Bool, false}
 use mathlib.Core.List.{List}
-use Prim.Native.Nat.{ℕ, suc, _+_, _*_, _-_, _/_, _%_, _<_, _≤_, max}
+use Prim.Native.Nat.{ℕ, _+_, _*_, _-_, _/_, _%_, _<_, _≤_}
 use native.Mathlib.Omega.{arith}
-use lib.Dec.{eqb}
 use lib.ListN.{length, getD}
 use borrow.Author.Tests.{eq-eqb, ne-eqb}
 use Rattle.rules.specs.Constants.{mostBytes}
-use Rattle.rules.specs.Tree.{Block, end, ite, assign, ofBlock, ofExpr, statement, node, both, none}
+use Rattle.rules.specs.Tree.{Block, end, ite, assign, ofBlock, statement, node, both, none}
 use Rattle.rules.specs.Parse.{assignops}
-use Rattle.nodes.specs.Words.{wordOf, iteKind, gotoKind, stepKind, assignKind}
-use Rattle.nodes.specs.Width.{width, orOne}
-use Rattle.nodes.specs.Holds.{HoldsB, Lists, Flag, at-end, at-goto, at-ite, at-step, at-assign}
-use Rattle.nodes.proofs.Words.{Fits, Unpacked, unpacked}
+use Rattle.nodes.specs.Words.{iteKind, gotoKind, stepKind, assignKind}
+use Rattle.nodes.specs.Width.{width}
+use Rattle.nodes.specs.Holds.{HoldsB, at-end, at-goto, at-ite, at-step, at-assign}
+use Rattle.nodes.proofs.Words.{unpacked}
+use Rattle.nodes.proofs.Blocks.{is-end}
 use Rattle.nodes.proofs.Table.{grows, grows-b}
 use Rattle.nodes.proofs.Exprs.{op-small}
 use Rattle.stmts.specs.Lists.{only, rest, onwardB, isEnd, deep, madeBy, linkedBy}
@@ -134,3 +134,12 @@ split a c h (at-assign y op o p b w k q e xs) =
       first = omega (arith, u .last-is);
       second = omega (arith, u .last-is);
     }
+
+-- a list of one statement is that statement
+pub one-only : {t s : List ℕ} {m i z : ℕ} {x : Block} → HoldsB t s m 1 i x z → only x ≡ x
+unfolding only
+one-only (at-end p q) = refl
+one-only (at-goto p w q e xs) = rw (is-end xs (omega arith) .is)
+one-only (at-ite n k v b p w f q e x y xs) = rw (is-end xs (omega arith) .is)
+one-only (at-step b f y p q g xs) = rw (is-end xs (omega arith) .is)
+one-only (at-assign y op o p b w k q e xs) = rw (is-end xs (omega arith) .is)

@@ -6,10 +6,10 @@ ghost use mathlib.Core.Path.{_≡_};
 ghost use mathlib.Core.List.{List, map};
 ghost use lib.Seq.{sets};
 ghost use lib.IntN.{ℤ};
-ghost use Prim.Native.Nat.{ℕ, suc, _+_, _*_, _-_, _≤_, _<_};
+ghost use Prim.Native.Nat.{ℕ, _+_, _*_, _-_, _≤_, _<_};
 ghost use lib.ListN.{length, getD, set};
 ghost use Rattle.rules.specs.Tree as Tree;
-ghost use Rattle.rules.specs.Tree.{ofExpr};
+ghost use Rattle.rules.specs.Tree.{Block, ofExpr};
 ghost use Rattle.codegen.specs.Costs.{Spent};
 ghost use Rattle.exprs.specs.Exprs.{exprCost};
 ghost use Rattle.stmts.specs.Told.{assignCost};
@@ -20,16 +20,27 @@ ghost use Rattle.rules.specs.Annotate.{codegenFromAssign, lineNumber, condition
 ghost use Rattle.rules.specs.Assemble.{link};
 ghost use Rattle.rules.specs.Machine as Machine;
 ghost use Rattle.words.specs.Runs as Runs;
-ghost use Rattle.nodes.specs.Holds.{HoldsE};
+ghost use Rattle.nodes.specs.Holds.{HoldsE, HoldsB};
 ghost use Rattle.codegen.specs.Does.{lent};
 ghost use Rattle.stmts.specs.Own.{Holding, Setting};
 ghost use Rattle.stmts.specs.Makes.{Makes, nothing, jump, jumpCost, placed};
+ghost use Rattle.stmts.specs.Parts.{OwnReady, OwnDone};
 use crate::own::codegen_from_assign;
 use crate::own::condition;
 use crate::own::line_number;
 use codegen::operators::codegen_incdec;
 use codegen::state::Counters;
 use codegen::state::index;
+use nodes::kinds::ASSIGN;
+use nodes::kinds::GOTO;
+use nodes::kinds::STEP;
+use nodes::layout::KINDS;
+use nodes::layout::NAME;
+use nodes::layout::NAMES;
+use nodes::layout::OP;
+use nodes::layout::OPS;
+use nodes::layout::WIDTH;
+use nodes::layout::WIDTHS;
 use words::instr::Instruction;
 use words::instr::NumReg;
 use words::instr::Section;
@@ -41,6 +52,13 @@ pub struct Place {
     pub slot: u16,
     pub start: bool,
     pub linked: bool,
+    pub next: Section,
+}
+
+// A list's place among the sections: whether it is linked, the number of its first section, the section that follows it.
+pub struct Link {
+    pub linked: bool,
+    pub number: u16,
     pub next: Section,
 }
 
@@ -210,4 +228,95 @@ pub fn codegen_from_test(
         d.at,
     );
     d
+}
+
+// The own section of the statement at node i, whose word goes to `slot`.
+pub fn codegen_from_own(
+    s: &[u8],
+    nodes: &[u64],
+    sections: &mut [u64],
+    instrs: &mut [u64],
+    numbers: &mut [i64],
+    strings: &mut [u32],
+    pool: &mut [u8],
+    names: &mut [u16],
+    i: usize,
+    slot: u16,
+    start: bool,
+    link: Link,
+    c: Counters,
+) -> Counters
+    requires { ⌜ OwnReady (now s) (now nodes) i (link .number) slot c (length (now instrs)) (length (now numbers)) (length (now strings)) (length (now pool)) (length (now names)) (length (now sections)) ⌝ }
+    ensures { λ r. ⌜ ((m : ℕ) (x : Block) (z : ℕ) → m ≤ 256 → HoldsB (now (nodes .entry)) (now (s .entry)) m 1 i x z → OwnDone m x start (link .linked) (link .number) (link .next .0) slot c (lent (now (instrs .entry)) (now (numbers .entry)) (now (strings .entry)) (now (pool .entry)) (now (names .entry))) (lent (now (instrs .exit)) (now (numbers .exit)) (now (strings .exit)) (now (pool .exit)) (now (names .exit))) (now (sections .entry)) (now (sections .exit)) r) ⌝ }
+{
+    let w = nodes[i];
+    let kind = w % KINDS;
+    let h = i + 1;
+    let x = (w / NAME % NAMES) as usize;
+    let next = link.next;
+    let place = Place {
+        slot,
+        start,
+        linked: link.linked,
+        next,
+    };
+    if kind == GOTO {
+        return codegen_from_goto(
+            s,
+            nodes,
+            sections,
+            instrs,
+            numbers,
+            strings,
+            pool,
+            names,
+            h,
+            c,
+            place,
+        );
+    }
+    if kind == STEP {
+        return codegen_from_step(sections, instrs, names, c, place, w / OP % OPS == 1, x);
+    }
+    if kind == ASSIGN {
+        return codegen_from_set(
+            s,
+            nodes,
+            sections,
+            instrs,
+            numbers,
+            strings,
+            pool,
+            names,
+            h,
+            c,
+            place,
+            x,
+            w / OP % OPS,
+        );
+    }
+    let v = (w / WIDTH % WIDTHS) as u16;
+    let first = link.number + 1;
+    let other = Section(first + v);
+    let test = Place {
+        slot,
+        start,
+        linked: link.linked,
+        next: other,
+    };
+    codegen_from_test(
+        s,
+        nodes,
+        sections,
+        instrs,
+        numbers,
+        strings,
+        pool,
+        names,
+        h,
+        c,
+        test,
+        x == 0,
+        Section(first),
+    )
 }

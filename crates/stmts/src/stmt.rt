@@ -4,47 +4,33 @@
 // `codegen_from_stmt` and `codegen_and_link_stmts` call each other, with the remaining depth falling; both are shown to write the sections that
 // `stmtSections` of `rules` makes of what `annotateStmts` gives. A caller owes the node table and room (`ListReady`).
 ghost use mathlib.Core.Path.{_≡_};
-ghost use mathlib.Core.List.{List};
-ghost use Prim.Native.Nat.{ℕ, _+_, _*_, _-_, _%_, _≤_, _<_};
-ghost use lib.ListN.{length, getD};
-ghost use Rattle.nodes.specs.Words.{iteKind};
+ghost use Prim.Native.Nat.{ℕ, _+_, _-_, _%_, _≤_, _<_};
+ghost use lib.ListN.{length};
 ghost use Rattle.rules.specs.Tree.{Block};
 ghost use Rattle.nodes.specs.Holds.{HoldsB};
 ghost use Rattle.nodes.specs.Width.{width};
 ghost use Rattle.codegen.specs.Does.{lent};
 ghost use Rattle.stmts.specs.Lists.{madeBy, linkedBy, entryBy, ListReady, ListDone, BranchReady, BranchDone, IteReady, IteDone};
+ghost use Rattle.stmts.specs.Parts.{InsideReady, InsideDone};
+use crate::sections::Link;
 use crate::sections::Place;
-use crate::sections::codegen_from_goto;
-use crate::sections::codegen_from_set;
-use crate::sections::codegen_from_step;
-use crate::sections::codegen_from_test;
+use crate::sections::codegen_from_own;
 use crate::sections::put_section;
 use crate::sections::successor;
 use codegen::state::Counters;
-use nodes::kinds::ASSIGN;
 use nodes::kinds::GOTO;
 use nodes::kinds::ITE;
-use nodes::kinds::STEP;
 use nodes::layout::COUNTS;
 use nodes::layout::KINDS;
 use nodes::layout::LAST;
 use nodes::layout::NAME;
 use nodes::layout::NAMES;
-use nodes::layout::OP;
-use nodes::layout::OPS;
 use nodes::layout::POS;
 use nodes::layout::POSITIONS;
 use nodes::layout::WIDTH;
 use nodes::layout::WIDTHS;
 use words::instr::Section;
 use words::section::SectionOrLine;
-
-// A list's place among the sections: whether it is linked, the number of its first section, the section that follows it.
-pub struct Link {
-    pub linked: bool,
-    pub number: u16,
-    pub next: Section,
-}
 
 // The counters behind a list, the node behind it, and the number behind its sections.
 pub struct Ended {
@@ -122,53 +108,22 @@ pub fn codegen_from_stmt(
     requires { ⌜ ListReady (now s) (now nodes) i 1 depth (link .number) c (length (now instrs)) (length (now numbers)) (length (now strings)) (length (now pool)) (length (now names)) (length (now sections)) ⌝ }
     ensures { λ r. ⌜ ((m : ℕ) (x : Block) (z : ℕ) → m ≤ 256 → HoldsB (now (nodes .entry)) (now (s .entry)) m 1 i x z → ListDone m x z (link .linked) (link .number) (link .next .0) c (lent (now (instrs .entry)) (now (numbers .entry)) (now (strings .entry)) (now (pool .entry)) (now (names .entry))) (lent (now (instrs .exit)) (now (numbers .exit)) (now (strings .exit)) (now (pool .exit)) (now (names .exit))) (now (sections .entry)) (now (sections .exit)) r z (link .number + width x)) ⌝ }
 {
-    let w = nodes[i];
-    let kind = w % KINDS;
-    let h = i + 1;
-    let x = (w / NAME % NAMES) as usize;
-    let next = link.next;
-    let place = Place {
-        slot: link.number,
-        start: false,
-        linked: link.linked,
-        next,
-    };
-    if kind == GOTO {
-        return codegen_from_goto(
-            s,
-            nodes,
-            sections,
-            instrs,
-            numbers,
-            strings,
-            pool,
-            names,
-            h,
-            c,
-            place,
-        );
-    }
-    if kind == STEP {
-        return codegen_from_step(sections, instrs, names, c, place, w / OP % OPS == 1, x);
-    }
-    if kind == ASSIGN {
-        return codegen_from_set(
-            s,
-            nodes,
-            sections,
-            instrs,
-            numbers,
-            strings,
-            pool,
-            names,
-            h,
-            c,
-            place,
-            x,
-            w / OP % OPS,
-        );
-    }
-    codegen_from_ite(
+    let d = codegen_from_own(
+        s,
+        nodes,
+        sections,
+        instrs,
+        numbers,
+        strings,
+        pool,
+        names,
+        i,
+        link.number,
+        false,
+        link,
+        c,
+    );
+    codegen_from_inside(
         s,
         nodes,
         sections,
@@ -180,12 +135,12 @@ pub fn codegen_from_stmt(
         i,
         depth,
         link,
-        c,
+        d,
     )
 }
 
-// The Ite at node i: its own section, its lists and the section that joins them.
-fn codegen_from_ite(
+// The lists that the statement at node i holds, behind its own section.
+pub fn codegen_from_inside(
     s: &[u8],
     nodes: &[u64],
     sections: &mut [u64],
@@ -199,41 +154,19 @@ fn codegen_from_ite(
     link: Link,
     c: Counters,
 ) -> Counters
-    requires { ⌜ ListReady (now s) (now nodes) i 1 depth (link .number) c (length (now instrs)) (length (now numbers)) (length (now strings)) (length (now pool)) (length (now names)) (length (now sections)) × (getD (now nodes) i 0 % 16 ≡ iteKind) ⌝ }
-    ensures { λ r. ⌜ ((m : ℕ) (x : Block) (z : ℕ) → m ≤ 256 → HoldsB (now (nodes .entry)) (now (s .entry)) m 1 i x z → ListDone m x z (link .linked) (link .number) (link .next .0) c (lent (now (instrs .entry)) (now (numbers .entry)) (now (strings .entry)) (now (pool .entry)) (now (names .entry))) (lent (now (instrs .exit)) (now (numbers .exit)) (now (strings .exit)) (now (pool .exit)) (now (names .exit))) (now (sections .entry)) (now (sections .exit)) r z (link .number + width x)) ⌝ }
+    requires { ⌜ InsideReady (now s) (now nodes) i depth (link .number) c (length (now instrs)) (length (now numbers)) (length (now strings)) (length (now pool)) (length (now names)) (length (now sections)) ⌝ }
+    ensures { λ r. ⌜ ((m : ℕ) (x : Block) (z : ℕ) → m ≤ 256 → HoldsB (now (nodes .entry)) (now (s .entry)) m 1 i x z → InsideDone m x (link .linked) (link .number) (link .next .0) c (lent (now (instrs .entry)) (now (numbers .entry)) (now (strings .entry)) (now (pool .entry)) (now (names .entry))) (lent (now (instrs .exit)) (now (numbers .exit)) (now (strings .exit)) (now (pool .exit)) (now (names .exit))) (now (sections .entry)) (now (sections .exit)) r) ⌝ }
 {
     let w = nodes[i];
+    if w % KINDS != ITE {
+        return c;
+    }
     let h = i + 1;
-    let a = (w / NAME % NAMES) as usize;
     let p = w / POS % POSITIONS;
-    let v = (w / WIDTH % WIDTHS) as u16;
-    let first = link.number + 1;
-    let other = Section(first + v);
-    let place = Place {
-        slot: link.number,
-        start: false,
-        linked: link.linked,
-        next: other,
-    };
-    let d = codegen_from_test(
-        s,
-        nodes,
-        sections,
-        instrs,
-        numbers,
-        strings,
-        pool,
-        names,
-        h,
-        c,
-        place,
-        a == 0,
-        Section(first),
-    );
     let next = link.next;
     let inner = Link {
         linked: link.linked,
-        number: first,
+        number: link.number + 1,
         next,
     };
     let node = (nodes[h] / LAST) as usize;
@@ -247,13 +180,13 @@ fn codegen_from_ite(
         pool,
         names,
         node,
-        a,
+        (w / NAME % NAMES) as usize,
         (p % COUNTS) as usize,
         depth,
         inner,
-        v,
+        (w / WIDTH % WIDTHS) as u16,
         (p / COUNTS) as u16,
-        d,
+        c,
     )
 }
 

@@ -1,7 +1,7 @@
 -- `program::lines::head_cost` meets its contract. Assumes nothing.
 use native.Mathlib.Omega.{arith}
 use mathlib.Core.Path.{refl}
-use Rattle.line.specs.Costs.{ownCost}
+use Rattle.stmts.specs.Parts.{ownCost}
 use Rattle.stmts.proofs.Places.{some-of}
 use Rattle.nodes.proofs.Blocks.{is-end}
 use Rattle.program.proofs.lines.head_cost.Statement.{statement}

@@ -1,104 +1,92 @@
-use Rattle.line.proofs.Firsts.{headed-goto, headed-step, headed-assign, headed-ite}
+use Rattle.stmts.proofs.Parts.{owns-goto, owns-step, owns-assign, owns-ite}
 use Rattle.stmts.proofs.Places.{goto-at, step-at, assign-at, ite-at, else-ite, ite-sum, goto-sum, assign-sum, step-sum, empty-same}
 use Rattle.stmts.proofs.Splits.{split}
 use Rattle.rules.specs.Bits.{isOne}
 use Rattle.rules.specs.Tree.{PowTo, ofBlock, statement as statementS, node, both, none}
 use Rattle.exprs.proofs.Trees.{expr-most}
 use Rattle.stmts.specs.Makes.{jumpCost}
 use Rattle.stmts.specs.Lists.{isEnd}
 use Rattle.stmts.proofs.Makes.{assign-most, jump-cost-most}
-use Rattle.line.specs.Costs.{ownCost}
-use Rattle.line.specs.Lines.{bare}
+use Rattle.stmts.specs.Parts.{ownCost, bare}
 use mathlib.Core.Bool.{Bool}
 use native.Mathlib.Omega.{arith}
 use native.Mathlib.Numerals.{add-one}
 use Prim.Native.Nat.{ℕ, _+_, _/_, _%_}
 use Rattle.rules.specs.Parse.{assignops}
 use lib.ListN.{getD}
-use mathlib.Core.Path.{_≡_, refl, sym, ap, _∙_}
+use mathlib.Core.Path.{ap}
 use borrow.Author.Needs.{needs}
-use Rattle.line.proofs.line.codegen_from_head.Statement.{statement}
-use Rattle.line.proofs.line.codegen_from_head.Tie as tie
-use Rattle.line.proofs.line.codegen_from_head.Reads as reads
-use Rattle.line.proofs.line.codegen_from_head.Lts as lts
+use Rattle.stmts.proofs.sections.codegen_from_own.Statement.{statement}
+use Rattle.stmts.proofs.sections.codegen_from_own.Tie as tie
+use Rattle.stmts.proofs.sections.codegen_from_own.Reads as reads
+use Rattle.stmts.proofs.sections.codegen_from_own.Lts as lts
 use Rattle.stmts.proofs.sections.codegen_from_goto.Reads as codegen-from-goto-reads
 use Rattle.stmts.proofs.sections.codegen_from_set.Reads as codegen-from-set-reads
 use Rattle.stmts.proofs.sections.codegen_from_step.Reads as codegen-from-step-reads
 use Rattle.stmts.proofs.sections.codegen_from_test.Reads as codegen-from-test-reads
 
--- src/line.rt:44:13
 mul-w : tie.Need-mul-w
 mul-w c =
-    let p = c .before .before .before .before .before .before .before .pre .0 in
+    let p = c .before .before .before .before .before .before .before .pre .list in
     let am = p .ample in
     let ins = p .inside in
-    let sl = c .before .before .before .before .before .before .before .pre .1 in
+    let sl = c .before .before .before .before .before .before .before .pre .placed in
     let sp = split (p .short) (p .few) (omega arith) (p .held) in
     let s1 = sp .first in
     let s2 = sp .second in
     omega arith
 
--- src/line.rt:44:13
 shared-slice-read-w : tie.Need-shared-slice-read-w
 shared-slice-read-w c =
-    let p = c .before .before .before .before .before .before .before .before .pre .0 in
+    let p = c .before .before .before .before .before .before .before .before .pre .list in
     let am = p .ample in
     let ins = p .inside in
-    let sl = c .before .before .before .before .before .before .before .before .pre .1 in
+    let sl = c .before .before .before .before .before .before .before .before .pre .placed in
     let sp = split (p .short) (p .few) (omega arith) (p .held) in
     let s1 = sp .first in
     let s2 = sp .second in
     omega arith
 
--- src/line.rt:46:13
 add-h : tie.Need-add-h
 add-h c =
-    let p = c .before .before .before .before .before .before .before .before .pre .0 in
+    let p = c .before .before .before .before .before .before .before .before .pre .list in
     let am = p .ample in
     let ins = p .inside in
-    let sl = c .before .before .before .before .before .before .before .before .pre .1 in
+    let sl = c .before .before .before .before .before .before .before .before .pre .placed in
     let sp = split (p .short) (p .few) (omega arith) (p .held) in
     let s1 = sp .first in
     let s2 = sp .second in
     let d = c .before .before .before .before .before .before .before .before .good .1 .0 in
     omega arith
 
--- src/line.rt:56:9
 codegen-from-goto-requires : tie.Need-codegen-from-goto-requires
 codegen-from-goto-requires c κs =
-    let p = c .before .before .before .before .before .before .before .before .before .before .before .before .before .before .before .before .pre .0 in
+    let p = c .before .before .before .before .before .before .before .before .before .before .before .before .before .before .before .before .pre .list in
     let am = p .ample in
     let ins = p .inside in
-    let sl = c .before .before .before .before .before .before .before .before .before .before .before .before .before .before .before .before .pre .1 in
+    let sl = c .before .before .before .before .before .before .before .before .before .before .before .before .before .before .before .before .pre .placed in
     let b = goto-at (p .held) (c .before .before .before .before .before .before .if1 .taken) in
     let y = goto-sum (b .e) _ (b .is) in
     (record { names = p .known; tree = b .e; last = p .last; held = b .to; inside = omega arith; short = p .short; few = p .few; fits = record { room = omega arith; strings = omega arith; strings-fit = omega arith; chars = omega arith; chars-fit = omega arith; names = omega arith }; room = omega arith }, sl, am .small)
 
--- src/line.rt:56:9
 same-length : tie.Need-same-length
 same-length c = search needs
 
--- src/line.rt:56:9
 same-length-2 : tie.Need-same-length-2
 same-length-2 c = search needs
 
--- src/line.rt:56:9
 same-length-3 : tie.Need-same-length-3
 same-length-3 c = search needs
 
--- src/line.rt:56:9
 same-length-4 : tie.Need-same-length-4
 same-length-4 c = search needs
 
--- src/line.rt:56:9
 same-length-5 : tie.Need-same-length-5
 same-length-5 c = search needs
 
--- src/line.rt:56:9
 same-length-6 : tie.Need-same-length-6
 same-length-6 c = search needs
 
--- src/line.rt:56:9
 returns : tie.Need-returns
 unfolding ownCost bare ofBlock statementS node both none
 returns c =
@@ -107,33 +95,28 @@ returns c =
     let r = c .before .before .before .before .before .before .before .before .before .before .before .codegen-from-goto .ensures m _ _ h (b .to) in
     let s = r .1 in
     let k = expr-most (b .e) in
-    rw (b .is) (record { does = headed-goto (b .e) (r .0); cost = s .at; spent = record { at = omega arith; numbers = omega arith; values = omega arith; strings = omega arith; chars = omega arith } })
+    rw (b .is) (record { does = owns-goto (b .e) (r .0); cost = s .at; spent = record { at = omega arith; numbers = omega arith; values = omega arith; strings = omega arith; chars = omega arith } })
 
--- src/line.rt:59:9
 codegen-from-step-requires : tie.Need-codegen-from-step-requires
 codegen-from-step-requires c κs =
-    let p = c .before .before .before .before .before .before .before .before .before .before .before .before .before .before .pre .0 in
+    let p = c .before .before .before .before .before .before .before .before .before .before .before .before .before .before .pre .list in
     let am = p .ample in
     let ins = p .inside in
-    let sl = c .before .before .before .before .before .before .before .before .before .before .before .before .before .before .pre .1 in
+    let sl = c .before .before .before .before .before .before .before .before .before .before .before .before .before .before .pre .placed in
     let b = step-at (p .few) (p .held) (c .before .before .before .if2 .taken) in
     let y = step-sum _ _ _ (b .is) in
     let kn = b .known in
     (omega arith, omega arith, omega arith, sl, omega arith)
 
--- src/line.rt:59:9
 same-length-7 : tie.Need-same-length-7
 same-length-7 c = search needs
 
--- src/line.rt:59:9
 same-length-8 : tie.Need-same-length-8
 same-length-8 c = search needs
 
--- src/line.rt:59:9
 same-length-9 : tie.Need-same-length-9
 same-length-9 c = search needs
 
--- src/line.rt:59:9
 returns-2 : tie.Need-returns-2
 unfolding isOne ownCost bare ofBlock statementS node both none
 returns-2 c =
@@ -141,44 +124,36 @@ returns-2 c =
     let b = step-at h q (c .before .before .before .before .before .before .before .before .before .before .if2 .taken) in
     let r = c .before .before .before .before .before .before .codegen-from-step .ensures m _ _ _ (b .known) in
     let s = r .1 in
-    rw (b .is) (record { does = headed-step _ _ (r .0); cost = s .at; spent = record { at = omega arith; numbers = omega arith; values = omega arith; strings = omega arith; chars = omega arith } })
+    rw (b .is) (record { does = owns-step _ _ (r .0); cost = s .at; spent = record { at = omega arith; numbers = omega arith; values = omega arith; strings = omega arith; chars = omega arith } })
 
--- src/line.rt:62:9
 codegen-from-set-requires : tie.Need-codegen-from-set-requires
 codegen-from-set-requires c κs =
-    let p = c .before .before .before .before .before .before .before .before .before .before .before .before .before .before .before .before .before .before .pre .0 in
+    let p = c .before .before .before .before .before .before .before .before .before .before .before .before .before .before .before .before .before .before .pre .list in
     let am = p .ample in
     let ins = p .inside in
-    let sl = c .before .before .before .before .before .before .before .before .before .before .before .before .before .before .before .before .before .before .pre .1 in
+    let sl = c .before .before .before .before .before .before .before .before .before .before .before .before .before .before .before .before .before .before .pre .placed in
     let b = assign-at (p .few) (p .held) (c .before .before .before .before .before .before .if3 .taken) in
     let y = assign-sum _ _ (b .e) _ (b .is) in
     (record { holding = record { names = p .known; tree = b .e; last = p .last; held = b .value; inside = omega arith; short = p .short; few = p .few; fits = record { room = omega arith; strings = omega arith; strings-fit = omega arith; chars = omega arith; chars-fit = omega arith; names = omega arith }; room = omega arith }; known = b .known }, b .small, sl, am .small)
 
--- src/line.rt:62:9
 same-length-10 : tie.Need-same-length-10
 same-length-10 c = search needs
 
--- src/line.rt:62:9
 same-length-11 : tie.Need-same-length-11
 same-length-11 c = search needs
 
--- src/line.rt:62:9
 same-length-12 : tie.Need-same-length-12
 same-length-12 c = search needs
 
--- src/line.rt:62:9
 same-length-13 : tie.Need-same-length-13
 same-length-13 c = search needs
 
--- src/line.rt:62:9
 same-length-14 : tie.Need-same-length-14
 same-length-14 c = search needs
 
--- src/line.rt:62:9
 same-length-15 : tie.Need-same-length-15
 same-length-15 c = search needs
 
--- src/line.rt:62:9
 returns-3 : tie.Need-returns-3
 unfolding ownCost bare ofBlock statementS node both none
 returns-3 c =
@@ -188,19 +163,17 @@ returns-3 c =
     let s = r .1 in
     let k = expr-most (b .e) in
     let o = assign-most (getD assignops (getD (c .before .before .before .before .before .before .before .before .before .before .before .before .before .before .before .before .before .before .before .before .before .before .before .before .before .before .before .before .before .before .args .nodes .now) (c .before .before .before .before .before .before .before .before .before .before .before .before .before .before .before .before .before .before .before .before .before .before .before .before .before .before .before .before .before .before .args .i) 0 / 16 % 16) PowTo) in
-    rw (b .is) (record { does = headed-assign _ _ (b .e) (r .0); cost = s .at; spent = record { at = omega (arith, s .at, k, o); numbers = omega arith; values = omega arith; strings = omega arith; chars = omega arith } })
+    rw (b .is) (record { does = owns-assign _ _ (b .e) (r .0); cost = s .at; spent = record { at = omega (arith, s .at, k, o); numbers = omega arith; values = omega arith; strings = omega arith; chars = omega arith } })
 
--- src/line.rt:64:13
 cast-v : tie.Need-cast-v
 cast-v c = search needs
 
--- src/line.rt:65:17
 add-first : tie.Need-add-first
 add-first c =
-    let p = c .before .before .before .before .before .before .before .before .before .before .before .before .before .pre .0 in
+    let p = c .before .before .before .before .before .before .before .before .before .before .before .before .before .pre .list in
     let am = p .ample in
     let ins = p .inside in
-    let sl = c .before .before .before .before .before .before .before .before .before .before .before .before .before .pre .1 in
+    let sl = c .before .before .before .before .before .before .before .before .before .before .before .before .before .pre .placed in
     let kd = else-ite (p .held) (c .before .before .before .if1 .left) (c .before .before .if2 .left) (c .before .if3 .left) in
     let it = ite-at (p .short) (p .few) (p .held) kd in
     let sm = ite-sum (it .e) (it .yes) (it .no) _ (it .is) in
@@ -210,13 +183,12 @@ add-first c =
     let w1 = it .width-then in
     omega arith
 
--- src/line.rt:66:25
 add-t64 : tie.Need-add-t64
 add-t64 c =
-    let p = c .before .before .before .before .before .before .before .before .before .before .before .before .before .pre .0 in
+    let p = c .before .before .before .before .before .before .before .before .before .before .before .before .before .pre .list in
     let am = p .ample in
     let ins = p .inside in
-    let sl = c .before .before .before .before .before .before .before .before .before .before .before .before .before .pre .1 in
+    let sl = c .before .before .before .before .before .before .before .before .before .before .before .before .before .pre .placed in
     let kd = else-ite (p .held) (c .before .before .before .if1 .left) (c .before .before .if2 .left) (c .before .if3 .left) in
     let it = ite-at (p .short) (p .few) (p .held) kd in
     let sm = ite-sum (it .e) (it .yes) (it .no) _ (it .is) in
@@ -226,13 +198,12 @@ add-t64 c =
     let w1 = it .width-then in
     omega arith
 
--- src/line.rt:73:5
 codegen-from-test-requires : tie.Need-codegen-from-test-requires
 codegen-from-test-requires c κs =
-    let p = c .before .before .before .before .before .before .before .before .before .before .before .before .before .before .before .before .before .before .before .pre .0 in
+    let p = c .before .before .before .before .before .before .before .before .before .before .before .before .before .before .before .before .before .before .before .pre .list in
     let am = p .ample in
     let ins = p .inside in
-    let sl = c .before .before .before .before .before .before .before .before .before .before .before .before .before .before .before .before .before .before .before .pre .1 in
+    let sl = c .before .before .before .before .before .before .before .before .before .before .before .before .before .before .before .before .before .before .before .pre .placed in
     let kd = else-ite (p .held) (c .before .before .before .before .before .before .before .before .before .if1 .left) (c .before .before .before .before .before .before .before .before .if2 .left) (c .before .before .before .before .before .before .before .if3 .left) in
     let it = ite-at (p .short) (p .few) (p .held) kd in
     let sm = ite-sum (it .e) (it .yes) (it .no) _ (it .is) in
@@ -242,36 +213,29 @@ codegen-from-test-requires c κs =
     let w1 = it .width-then in
     (record { names = p .known; tree = it .e; last = _; held = it .test; inside = omega arith; short = p .short; few = p .few; fits = record { room = omega arith; strings = omega arith; strings-fit = omega arith; chars = omega arith; chars-fit = omega arith; names = omega arith }; room = omega arith }, sl, am .small)
 
--- src/line.rt:26:1
 same-length-16 : tie.Need-same-length-16
 same-length-16 c = search needs
 
--- src/line.rt:26:1
 same-length-17 : tie.Need-same-length-17
 same-length-17 c = search needs
 
--- src/line.rt:26:1
 same-length-18 : tie.Need-same-length-18
 same-length-18 c = search needs
 
--- src/line.rt:26:1
 same-length-19 : tie.Need-same-length-19
 same-length-19 c = search needs
 
--- src/line.rt:26:1
 same-length-20 : tie.Need-same-length-20
 same-length-20 c = search needs
 
--- src/line.rt:26:1
 same-length-21 : tie.Need-same-length-21
 same-length-21 c = search needs
 
--- src/line.rt:26:1
 returns-4 : tie.Need-returns-4
 unfolding ownCost bare ofBlock statementS node both none
 returns-4 c =
     λ m x z h q.
-    let p = c .before .before .before .before .before .before .before .before .before .before .before .before .before .before .before .before .before .before .before .before .before .before .before .before .before .before .before .before .before .before .before .pre .0 in
+    let p = c .before .before .before .before .before .before .before .before .before .before .before .before .before .before .before .before .before .before .before .before .before .before .before .before .before .before .before .before .before .before .before .pre .list in
     let it = ite-at (p .short) h q (else-ite q (c .before .before .before .before .before .before .before .before .before .before .before .before .before .before .before .before .before .before .before .before .before .if1 .left) (c .before .before .before .before .before .before .before .before .before .before .before .before .before .before .before .before .before .before .before .before .if2 .left) (c .before .before .before .before .before .before .before .before .before .before .before .before .before .before .before .before .before .before .before .if3 .left)) in
     let r = c .before .before .before .before .before .before .before .before .before .before .before .codegen-from-test .ensures m _ _ h (it .test) in
     let s = r .1 in
@@ -281,13 +245,13 @@ returns-4 c =
     let jm = jump-cost-most (isEnd (it .yes)) in
     rw (it .is)
     (record {
-      does = headed-ite (it .e) (it .yes) (it .no) (add-one _) (empty-same (it .then-held)) (ap (λ (k : ℕ). c .before .before .before .before .before .before .before .before .before .before .before .before .before .before .before .before .before .before .before .before .before .before .before .before .before .before .before .before .before .before .before .args .link .number + 1 + k) (it .width-then)) (r .0);
+      does = owns-ite (it .e) (it .yes) (it .no) (add-one _) (empty-same (it .then-held)) (ap (λ (k : ℕ). c .before .before .before .before .before .before .before .before .before .before .before .before .before .before .before .before .before .before .before .before .before .before .before .before .before .before .before .before .before .before .before .args .link .number + 1 + k) (it .width-then)) (r .0);
       cost = omega (arith, s .at, jc);
       spent = record { at = omega (arith, s .at, jc, jm, k); numbers = omega arith; values = omega arith; strings = omega arith; chars = omega arith };
     })
 
-pub codegen-from-head-spec : {M : Type 1} → statement M
-codegen-from-head-spec =
+pub codegen-from-own-spec : {M : Type 1} → statement M
+codegen-from-own-spec =
     tie.close
     (tie.spec
     mul-w
