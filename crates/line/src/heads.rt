@@ -1,7 +1,7 @@
 // How many instructions the nodes of a range give, from their words alone.
 //
-// Each function is shown equal to a definition of specs/Costs; the own instructions of a statement are as many as lowering emits (`exprCost`,
-// and what `stmts` says of each statement). A caller owes operators of 4 bits and a range within the table.
+// Each function is shown equal to a definition of specs/Costs; the own instructions of a statement are as many as lowering emits (`ownCost` of
+// `stmts`). A caller owes operators of 4 bits and a range within the table.
 ghost use mathlib.Core.Path.{_≡_};
 ghost use mathlib.Core.List.{List};
 ghost use Prim.Native.Nat.{ℕ, _-_, _≤_, _<_};

@@ -1,7 +1,8 @@
 // A statement's own section: what it emits itself, and the word of its section.
 //
-// Each function is shown to make a section of what the step of `rules` emits (`Makes`). A caller owes the node table and room (`Holding`), a
-// slot in the table of sections, and instructions below 65,536.
+// Each function is shown to make a section of what the step of `rules` emits (`Makes`); `codegen_from_own` chooses among them by the node's kind,
+// for lists and for lines (`OwnDone`). A caller owes the node table and room (`Holding`, `OwnReady`), a slot in the table of sections, and
+// instructions below 65,536.
 ghost use mathlib.Core.Path.{_≡_};
 ghost use mathlib.Core.List.{List, map};
 ghost use lib.Seq.{sets};
@@ -230,7 +231,7 @@ pub fn codegen_from_test(
     d
 }
 
-// The own section of the statement at node i, whose word goes to `slot`.
+// The own section of the statement at node i, whose word goes to `slot`. `start`: is it a line start?
 pub fn codegen_from_own(
     s: &[u8],
     nodes: &[u64],

@@ -1,8 +1,10 @@
 // Statements and lists of statements, as in yogi's codegen.rs. Since the node table keeps how many sections an Ite's lists make, each section is
-// written with its final number and successor.
+// written with its final number and successor. A statement is lowered in two parts, its own section and the lists that it holds, since a line
+// puts the first elsewhere.
 //
 // `codegen_from_stmt` and `codegen_and_link_stmts` call each other, with the remaining depth falling; both are shown to write the sections that
-// `stmtSections` of `rules` makes of what `annotateStmts` gives. A caller owes the node table and room (`ListReady`).
+// `stmtSections` of `rules` makes of what `annotateStmts` gives, and `codegen_from_inside` those of a statement's lists (`InsideDone`). A caller
+// owes the node table and room (`ListReady`, `InsideReady`).
 ghost use mathlib.Core.Path.{_≡_};
 ghost use Prim.Native.Nat.{ℕ, _+_, _-_, _%_, _≤_, _<_};
 ghost use lib.ListN.{length};
@@ -191,7 +193,7 @@ pub fn codegen_from_inside(
 }
 
 // An Ite's lists of a and b statements, from node i on, and their join: they make v and w sections.
-pub fn codegen_from_lists(
+fn codegen_from_lists(
     s: &[u8],
     nodes: &[u64],
     sections: &mut [u64],

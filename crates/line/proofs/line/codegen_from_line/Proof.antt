@@ -1,3 +1,4 @@
+-- `codegen_from_line` meets its contract. Assumes nothing.
 use Rattle.line.proofs.Parts.{inner-only, line-none, line-more}
 use Rattle.line.proofs.Sums.{own-only}
 use Rattle.line.specs.Lines.{innerNodes}
@@ -18,15 +19,6 @@ use mathlib.Core.Path.{refl, sym, ap, _∙_}
 use borrow.Author.Needs.{needs}
 use Rattle.line.proofs.line.codegen_from_line.Statement.{statement}
 use Rattle.line.proofs.line.codegen_from_line.Tie as tie
-use Rattle.line.proofs.line.codegen_from_line.Reads as reads
-use Rattle.line.proofs.line.codegen_from_line.Lts as lts
-use Rattle.stmts.proofs.sections.codegen_from_own.Reads as codegen-from-own-reads
-use Rattle.stmts.proofs.stmt.codegen_from_inside.Reads as codegen-from-inside-reads
-use Rattle.line.proofs.line.with_cursor.Reads as with-cursor-reads
-use Rattle.stmts.proofs.sections.put_section.Reads as put-section-reads
-use Rattle.stmts.proofs.stmt.codegen_and_link_stmts.Reads as codegen-and-link-stmts-reads
-use Rattle.stmts.proofs.stmt.first_link.Reads as first-link-reads
-use Rattle.stmts.proofs.stmt.rest_link.Reads as rest-link-reads
 
 put-section-requires : tie.Need-put-section-requires
 put-section-requires c κs =

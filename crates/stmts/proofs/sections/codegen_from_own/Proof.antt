@@ -1,3 +1,4 @@
+-- `codegen_from_own` meets its contract: by the kind of its node, one of four statements. Assumes nothing.
 use Rattle.stmts.proofs.Parts.{owns-goto, owns-step, owns-assign, owns-ite}
 use Rattle.stmts.proofs.Places.{goto-at, step-at, assign-at, ite-at, else-ite, ite-sum, goto-sum, assign-sum, step-sum, empty-same}
 use Rattle.stmts.proofs.Splits.{split}
@@ -18,12 +19,6 @@ use mathlib.Core.Path.{ap}
 use borrow.Author.Needs.{needs}
 use Rattle.stmts.proofs.sections.codegen_from_own.Statement.{statement}
 use Rattle.stmts.proofs.sections.codegen_from_own.Tie as tie
-use Rattle.stmts.proofs.sections.codegen_from_own.Reads as reads
-use Rattle.stmts.proofs.sections.codegen_from_own.Lts as lts
-use Rattle.stmts.proofs.sections.codegen_from_goto.Reads as codegen-from-goto-reads
-use Rattle.stmts.proofs.sections.codegen_from_set.Reads as codegen-from-set-reads
-use Rattle.stmts.proofs.sections.codegen_from_step.Reads as codegen-from-step-reads
-use Rattle.stmts.proofs.sections.codegen_from_test.Reads as codegen-from-test-reads
 
 mul-w : tie.Need-mul-w
 mul-w c =

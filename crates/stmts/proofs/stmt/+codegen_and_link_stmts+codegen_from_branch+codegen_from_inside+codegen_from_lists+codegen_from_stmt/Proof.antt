@@ -1,3 +1,4 @@
+-- Statements and lists, which call each other, meet their contracts: the remaining depth falls, or the count of statements. Assumes nothing.
 use Rattle.stmts.proofs.Places.{some-of, entry-same, not-end, ite-at, ite-sum}
 use Rattle.stmts.proofs.Splits.{parts, split, starts, one-only}
 use Rattle.stmts.proofs.Lists.{some-width, lists-none, lists-more, branch-empty, branch-list, stored-empty}
