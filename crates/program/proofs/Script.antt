@@ -30,9 +30,10 @@ use Rattle.codegen.proofs.Lists.{map-append, length-map}
 use Rattle.stmts.specs.Makes.{Regs}
 use Rattle.stmts.proofs.Makes.{regs-moved}
 use Rattle.stmts.proofs.Lists.{all-append, runs-append, runs-length, made-width}
+use Rattle.stmts.specs.Lists.{SameLengths}
 use Rattle.stmts.specs.Parts.{ownCost}
 use Rattle.line.specs.Lines.{innerNodes, Parted, LineSpent, LineWent, LineDone}
-use Rattle.program.specs.Script.{ownCosts, innerAll, aimedAt, CostsMid, LinesReady, LinesWent, LinesDone, LinesMid, SameLengths}
+use Rattle.program.specs.Script.{ownCosts, innerAll, aimedAt, CostsMid, LinesReady, LinesWent, LinesDone, LinesMid}
 use Rattle.line.proofs.Parts.{own-most}
 use Rattle.program.proofs.Runs.{two-runs}
 

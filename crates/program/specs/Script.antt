@@ -108,12 +108,3 @@ pub record Going (s t ls : List ℕ) (m L : ℕ) (bs : List Block) (z n0 head0 :
 pub record LinesMid (s t ls : List ℕ) (L n0 head0 : ℕ) (c0 : Counters) (t0 : Lent) (se0 : List ℕ) (k n head : ℕ) (c : Counters) (t1 : Lent) (se : List ℕ) : Type 0 where
   pub ready : LinesReady s t ls k L n head c (length (t1 .instrs)) (length (t1 .numbers)) (length (t1 .strings)) (length (t1 .pool)) (length (t1 .names)) (length se)
   pub going : (m : ℕ) (bs : List Block) (i z : ℕ) → m ≤ 256 → HoldsL t ls s m 0 i bs L z → Going s t ls m L bs z n0 head0 c0 t0 se0 k n head c t1 se
-
--- no table grew or shrank
-pub record SameLengths (t t' : Lent) (se se' : List ℕ) : Type 0 where
-  pub instrs : length (t' .instrs) ≡ length (t .instrs)
-  pub numbers : length (t' .numbers) ≡ length (t .numbers)
-  pub strings : length (t' .strings) ≡ length (t .strings)
-  pub pool : length (t' .pool) ≡ length (t .pool)
-  pub names : length (t' .names) ≡ length (t .names)
-  pub sections : length se' ≡ length se

@@ -3,4 +3,5 @@ pub mod Makes
 pub mod Lists
 pub mod Splits
 pub mod Places
+pub mod Steps
 pub mod Parts

@@ -1,19 +1,19 @@
 -- Own instructions become a section. Assumes nothing.
 use mathlib.Core.Path.{_≡_, refl, sym, ap, _∙_}
-use mathlib.Core.Bool.{Bool, true, false, cond}
+use mathlib.Core.Bool.{Bool, true, false}
 use mathlib.Core.List.{List, [], _∷_, _++_, map}
-use Prim.Native.Nat.{ℕ, suc, _+_, _-_, _<_, _≤_}
+use Prim.Native.Nat.{ℕ, _+_, _-_, _≤_}
 use native.Mathlib.Nat.{add-zero}
 use native.Mathlib.Omega.{arith}
 use lib.IntN.{ℤ}
 use lib.ListN.{length, set, length-append}
 use lib.Seq.{sets}
-use Rattle.rules.specs.Instr.{Instruction, aimed}
+use Rattle.rules.specs.Instr.{Instruction}
 use Rattle.rules.specs.Word.{insWord, runWord}
-use Rattle.rules.specs.Machine.{SectionOrLine, SectionCode}
+use Rattle.rules.specs.Machine.{SectionOrLine}
 use Rattle.rules.specs.Tables.{runOf}
 use Rattle.rules.specs.Assemble.{ownCode}
-use Rattle.rules.specs.CodegenData.{CodegenData, Lower, scoped}
+use Rattle.rules.specs.CodegenData.{CodegenData, Lower}
 use Rattle.words.specs.Runs as Runs
 use Rattle.words.specs.declared.instr.Section.{Section}
 use Rattle.rules.specs.Tree.{Assignop, Plain, AddTo, SubTo, MulTo, DivTo, ModTo, PowTo}
@@ -21,7 +21,7 @@ use Rattle.stmts.specs.Told.{assignCost}
 use Rattle.codegen.specs.declared.state.Counters.{Counters}
 use Rattle.codegen.specs.Does.{wordTo, Lent, lent, Base, Stands, Does}
 use Rattle.codegen.proofs.Lists.{sets-sets, map-append, length-map}
-use Rattle.stmts.specs.Makes.{Regs, made, nothing, Stored, Became, Makes, placed, jump, jumpCost}
+use Rattle.stmts.specs.Makes.{Regs, nothing, Makes, placed, jump, jumpCost}
 
 -- ---- in and out of a statement
 

@@ -2,8 +2,8 @@
 use mathlib.Core.Path.{_≡_}
 use mathlib.Core.Bool.{Bool, true, false, cond}
 use lib.Dec.{eqb}
-use mathlib.Core.List.{List, [], _∷_, _++_, map}
-use Prim.Native.Nat.{ℕ, zero, suc, _+_, _*_, _/_, _%_, _≤_, _<_, max}
+use mathlib.Core.List.{List, [], map}
+use Prim.Native.Nat.{ℕ, suc, _+_, _*_, _/_, _%_, _≤_, _<_, max}
 use lib.ListN.{length}
 use lib.Seq.{sets}
 use Rattle.rules.specs.Constants.{mostBytes}
@@ -13,9 +13,8 @@ use Rattle.rules.specs.Machine.{SectionCode}
 use Rattle.rules.specs.Tables.{runWords, allCode}
 use Rattle.rules.specs.Script.{Stmts, nil, plain}
 use Rattle.rules.specs.Assemble.{stmtSections, orEmpty, inner, link}
-use Rattle.rules.specs.CodegenData.{CodegenData, Lower, pure, _>>=_, scoped}
-use Rattle.rules.specs.Operators.{codegenIncdec}
-use Rattle.rules.specs.Annotate.{lineNumber, condition, codegenFromAssign, annotateStmts}
+use Rattle.rules.specs.CodegenData.{CodegenData}
+use Rattle.rules.specs.Annotate.{annotateStmts}
 use Rattle.nodes.specs.Words.{iteKind, gotoKind}
 use Rattle.nodes.specs.Width.{width, orOne}
 use Rattle.nodes.specs.Holds.{HoldsB}
@@ -154,6 +153,25 @@ pub record BranchDone (m : ℕ) (x : Block) (z : ℕ) (n j : ℕ) (c : Counters)
   pub does : Branch m x n j c t t' se se' c'
   pub spent : SpentAll (ofBlock x) c c'
   pub node-is : node ≡ z
+
+-- no table grew or shrank
+pub record SameLengths (t t' : Lent) (se se' : List ℕ) : Type 0 where
+  pub instrs : length (t' .instrs) ≡ length (t .instrs)
+  pub numbers : length (t' .numbers) ≡ length (t .numbers)
+  pub strings : length (t' .strings) ≡ length (t .strings)
+  pub pool : length (t' .pool) ≡ length (t .pool)
+  pub names : length (t' .names) ≡ length (t .names)
+  pub sections : length se' ≡ length se
+
+-- midway through the list x, which ends at node z: `left` statements from node i on are left, and once they are lowered the whole is
+pub record Going (s t : List ℕ) (m : ℕ) (x : Block) (z : ℕ) (l0 : Bool) (n0 k : ℕ) (c0 : Counters) (t0 : Lent) (se0 : List ℕ) (i left : ℕ) (l : Bool) (n : ℕ) (c : Counters) (t1 : Lent) (se : List ℕ) : Type 0 where
+  pub others : Block
+  pub held : HoldsB t s m left i others z
+  pub goes : (t2 : Lent) (se2 : List ℕ) (c2 : Counters) (node number : ℕ) → ListDone m others z l n k c t1 t2 se se2 c2 node number → ListDone m x z l0 n0 k c0 t0 t2 se0 se2 c2 node number
+
+pub record ListMid (s t : List ℕ) (i0 count depth : ℕ) (l0 : Bool) (n0 k : ℕ) (c0 : Counters) (t0 : Lent) (se0 : List ℕ) (i left : ℕ) (l : Bool) (n : ℕ) (c : Counters) (t1 : Lent) (se : List ℕ) : Type 0 where
+  pub ready : ListReady s t i left depth n c (length (t1 .instrs)) (length (t1 .numbers)) (length (t1 .strings)) (length (t1 .pool)) (length (t1 .names)) (length se)
+  pub going : (m : ℕ) (x : Block) (z : ℕ) → m ≤ 256 → HoldsB t s m count i0 x z → Going s t m x z l0 n0 k c0 t0 se0 i left l n c t1 se
 
 -- the sections of a statement, by its node's word; and whether what stands behind it is linked
 unfoldable pub madeBy : ℕ → ℕ

@@ -1,9 +1,9 @@
 -- A statement's own section: its instructions at the cursor, and its word in the table of sections.
 use mathlib.Core.Path.{_≡_}
 use mathlib.Core.Bool.{Bool, true, false, cond}
-use mathlib.Core.Option.{Option, none, some}
+use mathlib.Core.Option.{none, some}
 use mathlib.Core.List.{List, [], _∷_, _++_, map}
-use Prim.Native.Nat.{ℕ, suc, _+_, _<_}
+use Prim.Native.Nat.{ℕ, _+_, _<_}
 use lib.ListN.{length, getD, set}
 use lib.Seq.{sets}
 use Rattle.rules.specs.Word.{insWord, spanWord, runWord}

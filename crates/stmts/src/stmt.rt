@@ -337,44 +337,33 @@ pub fn codegen_and_link_stmts(
     requires { ⌜ ListReady (now s) (now nodes) i count depth (link .number) c (length (now instrs)) (length (now numbers)) (length (now strings)) (length (now pool)) (length (now names)) (length (now sections)) ⌝ }
     ensures { λ r. ⌜ ((m : ℕ) (x : Block) (z : ℕ) → m ≤ 256 → HoldsB (now (nodes .entry)) (now (s .entry)) m count i x z → ListDone m x z (link .linked) (link .number) (link .next .0) c (lent (now (instrs .entry)) (now (numbers .entry)) (now (strings .entry)) (now (pool .entry)) (now (names .entry))) (lent (now (instrs .exit)) (now (numbers .exit)) (now (strings .exit)) (now (pool .exit)) (now (names .exit))) (now (sections .entry)) (now (sections .exit)) (r .next) (r .node) (r .number)) ⌝ }
 {
-    if count == 0 {
-        return Ended {
-            next: c,
-            node: i,
-            number: link.number,
-        };
+    let mut d = c;
+    let mut node = i;
+    let mut here = link;
+    let mut left = count;
+    while left > 0 {
+        let w = nodes[node];
+        d = codegen_from_stmt(
+            s,
+            nodes,
+            sections,
+            instrs,
+            numbers,
+            strings,
+            pool,
+            names,
+            node,
+            depth,
+            first_link(w, left, here),
+            d,
+        );
+        node = (w / LAST) as usize;
+        here = rest_link(w, here);
+        left -= 1;
     }
-    let w = nodes[i];
-    let first = first_link(w, count, link);
-    let d = codegen_from_stmt(
-        s,
-        nodes,
-        sections,
-        instrs,
-        numbers,
-        strings,
-        pool,
-        names,
-        i,
-        depth,
-        first,
-        c,
-    );
-    let others = rest_link(w, link);
-    let node = (w / LAST) as usize;
-    codegen_and_link_stmts(
-        s,
-        nodes,
-        sections,
-        instrs,
-        numbers,
-        strings,
-        pool,
-        names,
+    Ended {
+        next: d,
         node,
-        count - 1,
-        depth,
-        others,
-        d,
-    )
+        number: here.number,
+    }
 }

@@ -33,9 +33,23 @@ pub fn deep(depth: usize) -> Script {
     one_line(vec![assign("x", nested)])
 }
 
+fn inc() -> Statement {
+    Statement::Incdec(Incdec { inc: true, ident: Ident::local("x") })
+}
+
+/// Lists in each other, each the else-list of the last of `each` statements: all nodes of a tree on one way down.
+pub fn nested(levels: usize, each: usize) -> Script {
+    let around = |inner, _| {
+        let mut list = vec![inc(); each - 1];
+        list.push(Statement::Ite(local("x"), vec![], inner));
+        list
+    };
+    one_line((0..levels).fold(vec![], around))
+}
+
 /// So many `x++`, 63 a line.
 pub fn many(nodes: usize) -> Script {
-    let inc = Statement::Incdec(Incdec { inc: true, ident: Ident::local("x") });
+    let inc = inc();
     let line = |n| Line { stmts: vec![inc.clone(); n] };
     let mut lines: Vec<Line> = (0..nodes / 63).map(|_| line(63)).collect();
     lines.push(line(nodes % 63));

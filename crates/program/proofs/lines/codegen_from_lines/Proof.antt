@@ -4,7 +4,8 @@ use borrow.Author.Needs.{needs}
 use mathlib.Core.Path.{refl}
 use Prim.Native.Nat.{_≤_, _-_}
 use Rattle.codegen.specs.Does.{lent}
-use Rattle.program.specs.Script.{LinesMid, SameLengths}
+use Rattle.stmts.specs.Lists.{SameLengths}
+use Rattle.program.specs.Script.{LinesMid}
 use Rattle.program.proofs.Script.{lines-begin, lines-on, lines-end, lines-count, line-held, same-counts}
 use Rattle.program.proofs.Runs.{deep-nodes}
 use Rattle.program.proofs.lines.codegen_from_lines.Statement.{statement}

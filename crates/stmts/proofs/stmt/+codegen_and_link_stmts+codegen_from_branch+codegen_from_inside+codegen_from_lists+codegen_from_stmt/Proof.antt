@@ -1,9 +1,11 @@
--- Statements and lists, which call each other, meet their contracts: the remaining depth falls, or the count of statements. Assumes nothing.
-use Rattle.stmts.proofs.Places.{some-of, entry-same, not-end, ite-at, ite-sum}
+-- Statements and lists, which call each other, meet their contracts: the remaining depth falls. Assumes nothing.
+use Rattle.stmts.proofs.Places.{not-end, ite-at, ite-sum}
 use Rattle.stmts.proofs.Splits.{parts, split, starts, one-only}
-use Rattle.stmts.proofs.Lists.{some-width, lists-none, lists-more, branch-empty, branch-list, stored-empty}
+use Rattle.stmts.proofs.Steps.{ready-first, list-begin, list-on, list-end}
+use Rattle.stmts.proofs.Lists.{some-width, branch-empty, branch-list, stored-empty}
 use Rattle.stmts.proofs.Parts.{one-parts, none-inside, ite-inside, inside-none, inside-ite, lists-one}
-use Rattle.stmts.specs.Lists.{only, rest, isEnd}
+use Rattle.stmts.specs.Lists.{ListMid, SameLengths}
+use Rattle.codegen.specs.Does.{lent}
 use Rattle.stmts.specs.Parts.{insideTally}
 use Rattle.nodes.proofs.Blocks.{is-end, tag, kind-held}
 use Rattle.nodes.proofs.Table.{grows-b}
@@ -15,7 +17,6 @@ use lib.ListN.{getD}
 use native.Mathlib.Omega.{arith}
 use native.Mathlib.Numerals.{add-one}
 use Prim.Native.Nat.{ℕ, _+_, _*_, _/_, _%_, _<_}
-use mathlib.Core.Bool.{cond}
 use mathlib.Core.Path.{_≡_, refl, sym, ap, _∙_}
 use borrow.Author.Needs.{needs}
 use borrow.Fn.Kinds.{In}
@@ -48,19 +49,19 @@ use Rattle.stmts.proofs.stmt.+codegen_and_link_stmts+codegen_from_branc
 }
 
 abbrev μ-codegen-and-link-stmts : Measures 8 codegen-and-link-stmts-kinds.ps ℕ
-μ-codegen-and-link-stmts κs a = 256 * (a .1 .1 .1 .1 .1 .1 .1 .1 .1 .1 .0) + 4 * (a .1 .1 .1 .1 .1 .1 .1 .1 .1 .0)
+μ-codegen-and-link-stmts κs a = 5 * (a .1 .1 .1 .1 .1 .1 .1 .1 .1 .1 .0) + 3
 
 abbrev μ-codegen-from-branch : Measures 8 codegen-from-branch-kinds.ps ℕ
-μ-codegen-from-branch κs a = 256 * (a .1 .1 .1 .1 .1 .1 .1 .1 .1 .1 .0) + 4 * (a .1 .1 .1 .1 .1 .1 .1 .1 .1 .0) + 1
+μ-codegen-from-branch κs a = 5 * (a .1 .1 .1 .1 .1 .1 .1 .1 .1 .1 .0) + 4
 
 abbrev μ-codegen-from-inside : Measures 8 codegen-from-inside-kinds.ps ℕ
-μ-codegen-from-inside κs a = 256 * (a .1 .1 .1 .1 .1 .1 .1 .1 .1 .0) + 2
+μ-codegen-from-inside κs a = 5 * (a .1 .1 .1 .1 .1 .1 .1 .1 .1 .0) + 1
 
 abbrev μ-codegen-from-lists : Measures 8 codegen-from-lists-kinds.ps ℕ
-μ-codegen-from-lists κs a = 256 * (a .1 .1 .1 .1 .1 .1 .1 .1 .1 .1 .1 .0) + 1
+μ-codegen-from-lists κs a = 5 * (a .1 .1 .1 .1 .1 .1 .1 .1 .1 .1 .1 .0)
 
 abbrev μ-codegen-from-stmt : Measures 8 codegen-from-stmt-kinds.ps ℕ
-μ-codegen-from-stmt κs a = 256 * (a .1 .1 .1 .1 .1 .1 .1 .1 .1 .0) + 3
+μ-codegen-from-stmt κs a = 5 * (a .1 .1 .1 .1 .1 .1 .1 .1 .1 .0) + 2
 
 abbrev codegen-and-link-stmts-at : ℕ → In 8 codegen-and-link-stmts-kinds.ps
 codegen-and-link-stmts-at t =
@@ -143,7 +144,7 @@ codegen-from-stmt-below t =
     codegen-from-stmt.Pre
 
 abbrev claims-codegen-and-link-stmts : ℕ → codegen-and-link-stmts-lts.Claims
-claims-codegen-and-link-stmts t = (first-link-reads.Asked, first-link-reads.Learnt, codegen-from-stmt-below t, codegen-from-stmt.Post, rest-link-reads.Asked, rest-link-reads.Learnt, codegen-and-link-stmts-below t, codegen-and-link-stmts.Post)
+claims-codegen-and-link-stmts t = (first-link-reads.Asked, first-link-reads.Learnt, codegen-from-stmt-below t, codegen-from-stmt.Post, rest-link-reads.Asked, rest-link-reads.Learnt)
 
 abbrev claims-codegen-from-branch : ℕ → codegen-from-branch-lts.Claims
 claims-codegen-from-branch t = (put-section-reads.Asked, put-section-reads.Learnt, codegen-and-link-stmts-below t, codegen-and-link-stmts.Post)
@@ -157,162 +158,91 @@ claims-codegen-from-lists t = (codegen-from-branch-below t, codegen-from-branch.
 abbrev claims-codegen-from-stmt : ℕ → codegen-from-stmt-lts.Claims
 claims-codegen-from-stmt t = (codegen-from-own-reads.Asked, codegen-from-own-reads.Learnt, codegen-from-inside-below t, codegen-from-inside.Post)
 
-codegen-and-link-stmts-returns : (t : ℕ) → codegen-and-link-stmts-lts.Need-returns (claims-codegen-and-link-stmts t) (codegen-and-link-stmts-at t) codegen-and-link-stmts.Post
-unfolding ofBlock none width
-codegen-and-link-stmts-returns t c =
-    λ m x z h q.
-    let e = is-end q (c .if1 .taken) in
-    rw (e .is) (record { does = lists-none; spent = record { at = omega arith; numbers = omega arith; values = omega arith; strings = omega arith; chars = omega arith }; node-is = e .here; number-is = omega arith })
+abbrev codegen-and-link-stmts-Inv-loop : codegen-and-link-stmts-lts.InvT-loop
+codegen-and-link-stmts-Inv-loop s nodes sections₀ instrs₀ numbers₀ strings₀ pool₀ names₀ i count depth d₀ node₀ here₀ left₀ sections instrs numbers strings pool names d node here left =
+    SameLengths (lent instrs₀ numbers₀ strings₀ pool₀ names₀) (lent instrs numbers strings pool names) sections₀ sections
+    × ((here .next .0 ≡ here₀ .next .0)
+    × ListMid s nodes i count depth (here₀ .linked) (here₀ .number) (here₀ .next .0) d₀ (lent instrs₀ numbers₀ strings₀ pool₀ names₀) sections₀ node left (here .linked) (here .number) d (lent instrs numbers strings pool names) sections)
 
-codegen-and-link-stmts-mul-w : (t : ℕ) → codegen-and-link-stmts-lts.Need-mul-w (claims-codegen-and-link-stmts t) (codegen-and-link-stmts-at t) codegen-and-link-stmts.Post
+abbrev codegen-and-link-stmts-μ-loop : codegen-and-link-stmts-lts.MeasureT-loop
+codegen-and-link-stmts-μ-loop s nodes sections₀ instrs₀ numbers₀ strings₀ pool₀ names₀ i count depth d₀ node₀ here₀ left₀ sections instrs numbers strings pool names d node here left = left
+
+codegen-and-link-stmts-loop-holds : (t : ℕ) → codegen-and-link-stmts-lts.Need-loop-holds (claims-codegen-and-link-stmts t) (codegen-and-link-stmts-at t) codegen-and-link-stmts.Post codegen-and-link-stmts-Inv-loop codegen-and-link-stmts-μ-loop
+codegen-and-link-stmts-loop-holds t c =
+    (record { instrs = refl; numbers = refl; strings = refl; pool = refl; names = refl; sections = refl }, (refl, list-begin (c .before .before .before .before .before .before .before .pre .1)))
+
+codegen-and-link-stmts-mul-w : (t : ℕ) → codegen-and-link-stmts-lts.Need-mul-w (claims-codegen-and-link-stmts t) (codegen-and-link-stmts-at t) codegen-and-link-stmts.Post codegen-and-link-stmts-Inv-loop codegen-and-link-stmts-μ-loop
 codegen-and-link-stmts-mul-w t c =
-    let p = c .before .before .before .before .before .before .before .before .pre .1 in
-    let am = p .ample in
-    let pos = some-of _ (c .if1 .left) in
-    let sp = split (p .short) (p .few) pos (p .held) in
-    let pa = parts (p .block) in
-    let s1 = sp .first in
-    let s2 = sp .second in
-    let md = sp .made in
-    let ins = p .inside in
-    omega arith
+    let p = c .before .loop .inv .1 .1 .ready in
+    let sp = split (p .short) (p .few) (c .loop-test .taken) (p .held) in
+    omega (arith, p .inside, sp .first, sp .second, c .before .before .before .before .before .before .before .before .before .good .1 .0)
 
-codegen-and-link-stmts-shared-slice-read-w : (t : ℕ) → codegen-and-link-stmts-lts.Need-shared-slice-read-w (claims-codegen-and-link-stmts t) (codegen-and-link-stmts-at t) codegen-and-link-stmts.Post
+codegen-and-link-stmts-shared-slice-read-w : (t : ℕ) → codegen-and-link-stmts-lts.Need-shared-slice-read-w (claims-codegen-and-link-stmts t) (codegen-and-link-stmts-at t) codegen-and-link-stmts.Post codegen-and-link-stmts-Inv-loop codegen-and-link-stmts-μ-loop
 codegen-and-link-stmts-shared-slice-read-w t c =
-    let p = c .before .before .before .before .before .before .before .before .before .pre .1 in
-    let am = p .ample in
-    let pos = some-of _ (c .before .if1 .left) in
-    let sp = split (p .short) (p .few) pos (p .held) in
-    let pa = parts (p .block) in
-    let s1 = sp .first in
-    let s2 = sp .second in
-    let md = sp .made in
-    let ins = p .inside in
-    omega arith
+    let p = c .before .before .loop .inv .1 .1 .ready in
+    let sp = split (p .short) (p .few) (c .before .loop-test .taken) (p .held) in
+    omega (arith, p .inside, sp .first, sp .second)
 
-codegen-and-link-stmts-first-link-requires : (t : ℕ) → codegen-and-link-stmts-lts.Need-first-link-requires (claims-codegen-and-link-stmts t) (codegen-and-link-stmts-at t) codegen-and-link-stmts.Post
+codegen-and-link-stmts-first-link-requires : (t : ℕ) → codegen-and-link-stmts-lts.Need-first-link-requires (claims-codegen-and-link-stmts t) (codegen-and-link-stmts-at t) codegen-and-link-stmts.Post codegen-and-link-stmts-Inv-loop codegen-and-link-stmts-μ-loop
 codegen-and-link-stmts-first-link-requires t c κs =
-    let p = c .before .before .before .before .before .before .before .before .before .pre .1 in
-    let am = p .ample in
-    let pos = some-of _ (c .before .if1 .left) in
-    let sp = split (p .short) (p .few) pos (p .held) in
-    let pa = parts (p .block) in
-    let s1 = sp .first in
-    let s2 = sp .second in
-    let md = sp .made in
-    let ins = p .inside in
-    omega arith
+    let p = c .before .before .before .before .before .before .before .before .loop .inv .1 .1 .ready in
+    let sp = split (p .short) (p .few) (c .before .before .before .before .before .before .before .loop-test .taken) (p .held) in
+    omega (arith, p .ample, sp .made, parts (p .block))
 
-codegen-and-link-stmts-codegen-from-stmt-requires : (t : ℕ) → codegen-and-link-stmts-lts.Need-codegen-from-stmt-requires (claims-codegen-and-link-stmts t) (codegen-and-link-stmts-at t) codegen-and-link-stmts.Post
+codegen-and-link-stmts-codegen-from-stmt-requires : (t : ℕ) → codegen-and-link-stmts-lts.Need-codegen-from-stmt-requires (claims-codegen-and-link-stmts t) (codegen-and-link-stmts-at t) codegen-and-link-stmts.Post codegen-and-link-stmts-Inv-loop codegen-and-link-stmts-μ-loop
 codegen-and-link-stmts-codegen-from-stmt-requires t c κs =
-    let p = c .before .before .before .before .before .before .before .before .before .before .before .before .before .before .before .before .pre .1 in
-    let am = p .ample in
-    let pos = some-of _ (c .before .before .before .before .before .before .before .before .if1 .left) in
-    let sp = split (p .short) (p .few) pos (p .held) in
-    let pa = parts (p .block) in
-    let s1 = sp .first in
-    let s2 = sp .second in
-    let md = sp .made in
-    let ins = p .inside in
-    let m = c .before .before .before .before .before .before .before .before .before .before .before .before .before .before .before .before .pre .0 in
-    let fn = c .before .before .before .before .before .before .first-link .ensures .1 .0 in
-    let sh = p .shallow in
-    (omega arith, record { known = p .known; block = only (p .block); last = _; held = sp .head; inside = omega arith; short = p .short; few = p .few; shallow = omega arith; ample = record { room = omega arith; strings = omega arith; strings-fit = omega arith; chars = omega arith; chars-fit = omega arith; names = omega arith; sections = omega arith; sections-fit = omega arith; small = omega arith } })
+    let m = c .before .before .before .before .before .before .before .before .before .before .before .before .before .before .before .before .before .pre .0 in
+    (omega arith, ready-first (c .before .before .before .before .before .before .before .before .before .loop .inv .1 .1 .ready) (c .before .before .before .before .before .before .before .before .loop-test .taken) (c .first-link .ensures .1 .0))
 
-codegen-and-link-stmts-rest-link-requires : (t : ℕ) → codegen-and-link-stmts-lts.Need-rest-link-requires (claims-codegen-and-link-stmts t) (codegen-and-link-stmts-at t) codegen-and-link-stmts.Post
+codegen-and-link-stmts-rest-link-requires : (t : ℕ) → codegen-and-link-stmts-lts.Need-rest-link-requires (claims-codegen-and-link-stmts t) (codegen-and-link-stmts-at t) codegen-and-link-stmts.Post codegen-and-link-stmts-Inv-loop codegen-and-link-stmts-μ-loop
 codegen-and-link-stmts-rest-link-requires t c κs =
-    let p = c .before .before .before .before .before .before .before .before .before .before .before .before .before .before .before .before .before .before .before .before .before .before .before .before .before .before .before .before .pre .1 in
-    let am = p .ample in
-    let pos = some-of _ (c .before .before .before .before .before .before .before .before .before .before .before .before .before .before .before .before .before .before .before .before .if1 .left) in
-    let sp = split (p .short) (p .few) pos (p .held) in
-    let pa = parts (p .block) in
-    let s1 = sp .first in
-    let s2 = sp .second in
-    let md = sp .made in
-    let ins = p .inside in
-    omega arith
+    let p = c .before .before .before .before .before .before .before .before .before .before .before .before .before .before .before .before .before .before .before .before .before .loop .inv .1 .1 .ready in
+    let sp = split (p .short) (p .few) (c .before .before .before .before .before .before .before .before .before .before .before .before .before .before .before .before .before .before .before .before .loop-test .taken) (p .held) in
+    omega (arith, p .ample, sp .made, parts (p .block))
 
-codegen-and-link-stmts-sub-codegen-and-link-stmts : (t : ℕ) → codegen-and-link-stmts-lts.Need-sub-codegen-and-link-stmts (claims-codegen-and-link-stmts t) (codegen-and-link-stmts-at t) codegen-and-link-stmts.Post
-codegen-and-link-stmts-sub-codegen-and-link-stmts t c =
-    let p = c .before .before .before .before .before .before .before .before .before .before .before .before .before .before .before .before .before .before .before .before .before .before .before .before .before .before .before .before .before .before .before .before .before .before .before .pre .1 in
-    let am = p .ample in
-    let pos = some-of _ (c .before .before .before .before .before .before .before .before .before .before .before .before .before .before .before .before .before .before .before .before .before .before .before .before .before .before .before .if1 .left) in
-    let sp = split (p .short) (p .few) pos (p .held) in
-    let pa = parts (p .block) in
-    let s1 = sp .first in
-    let s2 = sp .second in
-    let md = sp .made in
-    let ins = p .inside in
-    omega arith
+codegen-and-link-stmts-sub-left : (t : ℕ) → codegen-and-link-stmts-lts.Need-sub-left (claims-codegen-and-link-stmts t) (codegen-and-link-stmts-at t) codegen-and-link-stmts.Post codegen-and-link-stmts-Inv-loop codegen-and-link-stmts-μ-loop
+codegen-and-link-stmts-sub-left t c =
+    omega (arith, c .before .before .before .before .before .before .before .before .before .before .before .before .before .before .before .before .before .before .before .before .before .loop-test .taken)
 
-codegen-and-link-stmts-codegen-and-link-stmts-requires : (t : ℕ) → codegen-and-link-stmts-lts.Need-codegen-and-link-stmts-requires (claims-codegen-and-link-stmts t) (codegen-and-link-stmts-at t) codegen-and-link-stmts.Post
-codegen-and-link-stmts-codegen-and-link-stmts-requires t c κs =
-    let p = c .before .before .before .before .before .before .before .before .before .before .before .before .before .before .before .before .before .before .before .before .before .before .before .before .before .before .before .before .before .before .before .before .before .before .before .pre .1 in
-    let am = p .ample in
-    let pos = some-of _ (c .before .before .before .before .before .before .before .before .before .before .before .before .before .before .before .before .before .before .before .before .before .before .before .before .before .before .before .if1 .left) in
-    let sp = split (p .short) (p .few) pos (p .held) in
-    let pa = parts (p .block) in
-    let s1 = sp .first in
-    let s2 = sp .second in
-    let md = sp .made in
-    let ins = p .inside in
-    let m = c .before .before .before .before .before .before .before .before .before .before .before .before .before .before .before .before .before .before .before .before .before .before .before .before .before .before .before .before .before .before .before .before .before .before .before .pre .0 in
-    let rn = c .before .before .before .before .before .before .rest-link .ensures .1 .0 in
-    let sh = p .shallow in
-    let st = c .before .before .before .before .before .before .before .before .before .before .before .before .before .before .before .before .before .before .codegen-from-stmt .ensures _ _ _ (p .few) (sp .head) .spent in
-    let k2 = c .before .before .before .before .before .before .before .before .before .before .before .before .before .before .before .before .before .before .codegen-from-stmt .kept .1 .1 .0 in
-    let k3 = c .before .before .before .before .before .before .before .before .before .before .before .before .before .before .before .before .before .before .codegen-from-stmt .kept .1 .1 .1 .0 in
-    let k4 = c .before .before .before .before .before .before .before .before .before .before .before .before .before .before .before .before .before .before .codegen-from-stmt .kept .1 .1 .1 .1 .0 in
-    let k5 = c .before .before .before .before .before .before .before .before .before .before .before .before .before .before .before .before .before .before .codegen-from-stmt .kept .1 .1 .1 .1 .1 .0 in
-    let k6 = c .before .before .before .before .before .before .before .before .before .before .before .before .before .before .before .before .before .before .codegen-from-stmt .kept .1 .1 .1 .1 .1 .1 .0 in
-    let k7 = c .before .before .before .before .before .before .before .before .before .before .before .before .before .before .before .before .before .before .codegen-from-stmt .kept .1 .1 .1 .1 .1 .1 .1 .0 in
-    (omega arith, record { known = p .known; block = rest (p .block); last = p .last; held = sp .tail; inside = omega arith; short = p .short; few = p .few; shallow = omega arith; ample = record { room = omega arith; strings = omega arith; strings-fit = omega arith; chars = omega arith; chars-fit = omega arith; names = omega arith; sections = omega arith; sections-fit = omega arith; small = omega arith } })
+codegen-and-link-stmts-loop-less : (t : ℕ) → codegen-and-link-stmts-lts.Need-loop-less (claims-codegen-and-link-stmts t) (codegen-and-link-stmts-at t) codegen-and-link-stmts.Post codegen-and-link-stmts-Inv-loop codegen-and-link-stmts-μ-loop
+codegen-and-link-stmts-loop-less t c =
+    omega (arith, c .before .before .before .before .before .before .before .before .before .before .before .before .before .before .before .before .before .before .before .before .before .loop-test .taken)
 
-codegen-and-link-stmts-same-length : (t : ℕ) → codegen-and-link-stmts-lts.Need-same-length (claims-codegen-and-link-stmts t) (codegen-and-link-stmts-at t) codegen-and-link-stmts.Post
+codegen-and-link-stmts-loop-again : (t : ℕ) → codegen-and-link-stmts-lts.Need-loop-again (claims-codegen-and-link-stmts t) (codegen-and-link-stmts-at t) codegen-and-link-stmts.Post codegen-and-link-stmts-Inv-loop codegen-and-link-stmts-μ-loop
+codegen-and-link-stmts-loop-again t c =
+    let i = c .before .before .before .before .before .before .before .before .before .before .before .before .before .before .before .before .before .before .before .before .before .before .loop .inv in
+    let f = c .before .before .before .before .before .before .before .before .before .before .before .before .before .first-link .ensures in
+    let r = c .rest-link .ensures in
+    let st = c .before .before .before .before .before .before .before .before .before .before .before .before .codegen-from-stmt in
+    (omega (arith, i .0, st .kept), (r .1 .1 ∙ i .1 .0, list-on (i .1 .1) (c .before .before .before .before .before .before .before .before .before .before .before .before .before .before .before .before .before .before .before .before .before .loop-test .taken) (f .0) (f .1 .0) (f .1 .1) (i .1 .0) (r .0) (r .1 .0) (omega (arith, st .kept)) (st .ensures)))
+
+codegen-and-link-stmts-same-length : (t : ℕ) → codegen-and-link-stmts-lts.Need-same-length (claims-codegen-and-link-stmts t) (codegen-and-link-stmts-at t) codegen-and-link-stmts.Post codegen-and-link-stmts-Inv-loop codegen-and-link-stmts-μ-loop
 codegen-and-link-stmts-same-length t c =
-    c .before .before .before .before .before .before .before .before .before .before .before .codegen-and-link-stmts .kept .1 .1 .0 ∙ c .before .before .before .before .before .before .before .before .before .before .before .before .before .before .before .before .before .before .before .before .before .before .before .before .before .before .before .before .before .before .codegen-from-stmt .kept .1 .1 .0
+    c .before .loop .inv .0 .sections
 
-codegen-and-link-stmts-same-length-2 : (t : ℕ) → codegen-and-link-stmts-lts.Need-same-length-2 (claims-codegen-and-link-stmts t) (codegen-and-link-stmts-at t) codegen-and-link-stmts.Post
+codegen-and-link-stmts-same-length-2 : (t : ℕ) → codegen-and-link-stmts-lts.Need-same-length-2 (claims-codegen-and-link-stmts t) (codegen-and-link-stmts-at t) codegen-and-link-stmts.Post codegen-and-link-stmts-Inv-loop codegen-and-link-stmts-μ-loop
 codegen-and-link-stmts-same-length-2 t c =
-    c .before .before .before .before .before .before .before .before .before .before .before .codegen-and-link-stmts .kept .1 .1 .1 .0 ∙ c .before .before .before .before .before .before .before .before .before .before .before .before .before .before .before .before .before .before .before .before .before .before .before .before .before .before .before .before .before .before .codegen-from-stmt .kept .1 .1 .1 .0
+    c .before .loop .inv .0 .instrs
 
-codegen-and-link-stmts-same-length-3 : (t : ℕ) → codegen-and-link-stmts-lts.Need-same-length-3 (claims-codegen-and-link-stmts t) (codegen-and-link-stmts-at t) codegen-and-link-stmts.Post
+codegen-and-link-stmts-same-length-3 : (t : ℕ) → codegen-and-link-stmts-lts.Need-same-length-3 (claims-codegen-and-link-stmts t) (codegen-and-link-stmts-at t) codegen-and-link-stmts.Post codegen-and-link-stmts-Inv-loop codegen-and-link-stmts-μ-loop
 codegen-and-link-stmts-same-length-3 t c =
-    c .before .before .before .before .before .before .before .before .before .before .before .codegen-and-link-stmts .kept .1 .1 .1 .1 .0 ∙ c .before .before .before .before .before .before .before .before .before .before .before .before .before .before .before .before .before .before .before .before .before .before .before .before .before .before .before .before .before .before .codegen-from-stmt .kept .1 .1 .1 .1 .0
+    c .before .loop .inv .0 .numbers
 
-codegen-and-link-stmts-same-length-4 : (t : ℕ) → codegen-and-link-stmts-lts.Need-same-length-4 (claims-codegen-and-link-stmts t) (codegen-and-link-stmts-at t) codegen-and-link-stmts.Post
+codegen-and-link-stmts-same-length-4 : (t : ℕ) → codegen-and-link-stmts-lts.Need-same-length-4 (claims-codegen-and-link-stmts t) (codegen-and-link-stmts-at t) codegen-and-link-stmts.Post codegen-and-link-stmts-Inv-loop codegen-and-link-stmts-μ-loop
 codegen-and-link-stmts-same-length-4 t c =
-    c .before .before .before .before .before .before .before .before .before .before .before .codegen-and-link-stmts .kept .1 .1 .1 .1 .1 .0 ∙ c .before .before .before .before .before .before .before .before .before .before .before .before .before .before .before .before .before .before .before .before .before .before .before .before .before .before .before .before .before .before .codegen-from-stmt .kept .1 .1 .1 .1 .1 .0
+    c .before .loop .inv .0 .strings
 
-codegen-and-link-stmts-same-length-5 : (t : ℕ) → codegen-and-link-stmts-lts.Need-same-length-5 (claims-codegen-and-link-stmts t) (codegen-and-link-stmts-at t) codegen-and-link-stmts.Post
+codegen-and-link-stmts-same-length-5 : (t : ℕ) → codegen-and-link-stmts-lts.Need-same-length-5 (claims-codegen-and-link-stmts t) (codegen-and-link-stmts-at t) codegen-and-link-stmts.Post codegen-and-link-stmts-Inv-loop codegen-and-link-stmts-μ-loop
 codegen-and-link-stmts-same-length-5 t c =
-    c .before .before .before .before .before .before .before .before .before .before .before .codegen-and-link-stmts .kept .1 .1 .1 .1 .1 .1 .0 ∙ c .before .before .before .before .before .before .before .before .before .before .before .before .before .before .before .before .before .before .before .before .before .before .before .before .before .before .before .before .before .before .codegen-from-stmt .kept .1 .1 .1 .1 .1 .1 .0
+    c .before .loop .inv .0 .pool
 
-codegen-and-link-stmts-same-length-6 : (t : ℕ) → codegen-and-link-stmts-lts.Need-same-length-6 (claims-codegen-and-link-stmts t) (codegen-and-link-stmts-at t) codegen-and-link-stmts.Post
+codegen-and-link-stmts-same-length-6 : (t : ℕ) → codegen-and-link-stmts-lts.Need-same-length-6 (claims-codegen-and-link-stmts t) (codegen-and-link-stmts-at t) codegen-and-link-stmts.Post codegen-and-link-stmts-Inv-loop codegen-and-link-stmts-μ-loop
 codegen-and-link-stmts-same-length-6 t c =
-    c .before .before .before .before .before .before .before .before .before .before .before .codegen-and-link-stmts .kept .1 .1 .1 .1 .1 .1 .1 .0 ∙ c .before .before .before .before .before .before .before .before .before .before .before .before .before .before .before .before .before .before .before .before .before .before .before .before .before .before .before .before .before .before .codegen-from-stmt .kept .1 .1 .1 .1 .1 .1 .1 .0
+    c .before .loop .inv .0 .names
 
-codegen-and-link-stmts-returns-2 : (t : ℕ) → codegen-and-link-stmts-lts.Need-returns-2 (claims-codegen-and-link-stmts t) (codegen-and-link-stmts-at t) codegen-and-link-stmts.Post
-codegen-and-link-stmts-returns-2 t c =
-    λ m x z h q.
-    let p = c .before .before .before .before .before .before .before .before .before .before .before .before .before .before .before .before .before .before .before .before .before .before .before .before .before .before .before .before .before .before .before .before .before .before .before .before .before .before .before .before .before .before .before .before .before .before .before .pre .1 in
-    let pos = some-of _ (c .before .before .before .before .before .before .before .before .before .before .before .before .before .before .before .before .before .before .before .before .before .before .before .before .before .before .before .before .before .before .before .before .before .before .before .before .before .before .before .if1 .left) in
-    let sp = split (p .short) h pos q in
-    let pa = parts x in
-    let st = c .before .before .before .before .before .before .before .before .before .before .before .before .before .before .before .before .before .before .before .before .before .before .before .before .before .before .before .before .before .before .codegen-from-stmt .ensures m _ _ h (sp .head) in
-    let re = c .before .before .before .before .before .before .before .before .before .before .before .codegen-and-link-stmts .ensures m _ _ h (sp .tail) in
-    let f = c .before .before .before .before .before .before .before .before .before .before .before .before .before .before .before .before .before .before .before .before .before .before .before .before .before .before .before .before .before .before .before .before .before .before .before .before .before .first-link .ensures in
-    let g = c .before .before .before .before .before .before .before .before .before .before .before .before .before .before .before .before .before .before .rest-link .ensures in
-    let s1 = st .spent in
-    let s2 = re .spent in
-    record {
-      does = lists-more x (sp .some) (g .1 .0 ∙ ap (λ (k : ℕ). c .before .before .before .before .before .before .before .before .before .before .before .before .before .before .before .before .before .before .before .before .before .before .before .before .before .before .before .before .before .before .before .before .before .before .before .before .before .before .before .before .before .before .before .before .before .before .before .args .link .number + k) (sp .made)) (g .0 ∙ sp .linked (c .before .before .before .before .before .before .before .before .before .before .before .before .before .before .before .before .before .before .before .before .before .before .before .before .before .before .before .before .before .before .before .before .before .before .before .before .before .before .before .before .before .before .before .before .before .before .before .args .link .linked))
-          (f .1 .1 ∙ (entry-same _ _ _ pos (sp .tail) ∙ ap (λ (k : ℕ). cond (isEnd (rest x)) (c .before .before .before .before .before .before .before .before .before .before .before .before .before .before .before .before .before .before .before .before .before .before .before .before .before .before .before .before .before .before .before .before .before .before .before .before .before .before .before .before .before .before .before .before .before .before .before .args .link .next .0) k) (sym (g .1 .0))))
-          (rw (f .0, f .1 .0) at (st .does)) (rw (g .1 .1) at (re .does));
-      spent = record { at = omega arith; numbers = omega arith; values = omega arith; strings = omega arith; chars = omega arith };
-      node-is = re .node-is;
-      number-is = omega (arith, re .number-is, g .1 .0, sp .made, pa .widths);
-    }
+codegen-and-link-stmts-returns : (t : ℕ) → codegen-and-link-stmts-lts.Need-returns (claims-codegen-and-link-stmts t) (codegen-and-link-stmts-at t) codegen-and-link-stmts.Post codegen-and-link-stmts-Inv-loop codegen-and-link-stmts-μ-loop
+codegen-and-link-stmts-returns t c =
+    λ m x z h q. list-end (c .before .loop .inv .1 .1) (c .loop-test .left) h q
 
 codegen-from-branch-put-section-requires : (t : ℕ) → codegen-from-branch-lts.Need-put-section-requires (claims-codegen-from-branch t) (codegen-from-branch-at t) codegen-from-branch.Post
 codegen-from-branch-put-section-requires t c κs =
@@ -704,21 +634,24 @@ pub +codegen-and-link-stmts+codegen-from-branch+codegen-from-inside+codegen-from
     (λ t. codegen-and-link-stmts-lts.spec (claims-codegen-and-link-stmts t)
     (codegen-and-link-stmts-at t)
     codegen-and-link-stmts.Post
-    (codegen-and-link-stmts-returns t)
+    codegen-and-link-stmts-Inv-loop
+    codegen-and-link-stmts-μ-loop
+    (codegen-and-link-stmts-loop-holds t)
     (codegen-and-link-stmts-mul-w t)
     (codegen-and-link-stmts-shared-slice-read-w t)
     (codegen-and-link-stmts-first-link-requires t)
     (codegen-and-link-stmts-codegen-from-stmt-requires t)
     (codegen-and-link-stmts-rest-link-requires t)
-    (codegen-and-link-stmts-sub-codegen-and-link-stmts t)
-    (codegen-and-link-stmts-codegen-and-link-stmts-requires t)
+    (codegen-and-link-stmts-sub-left t)
+    (codegen-and-link-stmts-loop-less t)
+    (codegen-and-link-stmts-loop-again t)
     (codegen-and-link-stmts-same-length t)
     (codegen-and-link-stmts-same-length-2 t)
     (codegen-and-link-stmts-same-length-3 t)
     (codegen-and-link-stmts-same-length-4 t)
     (codegen-and-link-stmts-same-length-5 t)
     (codegen-and-link-stmts-same-length-6 t)
-    (codegen-and-link-stmts-returns-2 t))
+    (codegen-and-link-stmts-returns t))
     (λ t. codegen-from-branch-lts.spec (claims-codegen-from-branch t)
     (codegen-from-branch-at t)
     codegen-from-branch.Post
