@@ -16,7 +16,8 @@
 //! # Ok::<(), sezkibalo::Error>(())
 //! ```
 //!
-//! Every call may be made from several threads at once: the library has no state of its own. The tests make calls on stacks of 2 MiB.
+//! Every call may be made from several threads at once: the library has no state of its own. The tests make calls on stacks of 2 MiB, and of
+//! 256 KiB for the deepest trees.
 
 mod instr;
 mod machine;
