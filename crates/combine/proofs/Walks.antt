@@ -29,9 +29,9 @@ module _ (t : ℕ) (s : List ℕ) (i n k : ℕ) where
     unfolding refsNexts
     nexts-more x q e = rw (slice-cons i n s 0 h l, add-one, e, q) (omega arith)
 
-    pub jumps-more : (x : Option ℕ) → x ≡ getSection (wordIns (getD s i 0)) → r ≡ hits t x → k + r + refsJumps t (slice (i + 1) n s) ≡ k + refsJumps t (slice i n s)
+    pub jumps-more : r ≡ hits t (getSection (wordIns (getD s i 0))) → k + r + refsJumps t (slice (i + 1) n s) ≡ k + refsJumps t (slice i n s)
     unfolding refsJumps
-    jumps-more x q e = rw (slice-cons i n s 0 h l, add-one, e, q) (omega arith)
+    jumps-more e = rw (slice-cons i n s 0 h l, add-one, e) (omega arith)
 
 -- successors ahead: b is what the code says of section i
 module _ (s : List ℕ) (i n : ℕ) where

@@ -9,10 +9,12 @@ use lib.Dec.{eqb, leb}
 use lib.ListN.{length, take, getD, length-take}
 use borrow.Author.Tests.{eq-eqb, ne-eqb, lt-ltb, le-ltb}
 use Rattle.rules.specs.Bits.{isOne}
+use Rattle.rules.specs.Instr.{Instruction, isJump, getSection}
 use Rattle.rules.specs.Word.{wordRun}
 use Rattle.rules.specs.Machine.{SectionOrLine, unfixed, section, line, absent}
 use Rattle.rules.specs.Tables.{successOf}
 use Rattle.rules.specs.Combine.{refs, mayTake, mate}
+use Rattle.words.proofs.Laws.{target, nowhere}
 use Rattle.tables.specs.Runs.{total, held}
 use Rattle.join.specs.Held.{Sound}
 use Rattle.join.specs.Joins.{enough, enough-code}
@@ -27,6 +29,17 @@ hit-yes t u e = rw (eq-eqb u t e)
 
 pub hit-no : (t u : ℕ) → (u ≡ t → ⊥) → 0 ≡ hits t (some u)
 hit-no t u e = rw (ne-eqb u t e)
+
+-- of an instruction, by whether it is a jump, j, and its first field, f
+module _ (t : ℕ) (i : Instruction) {j : Bool} (e : j ≡ isJump i) where
+  pub jump-yes : {f : ℕ} → f ≡ i .fst → j ≡ true → f ≡ t → 1 ≡ hits t (getSection i)
+  jump-yes {f} q h k = rw (← target i f j e q h) (hit-yes t f k)
+
+  pub jump-no : {f : ℕ} → f ≡ i .fst → j ≡ true → (f ≡ t → ⊥) → 0 ≡ hits t (getSection i)
+  jump-no {f} q h k = rw (← target i f j e q h) (hit-no t f k)
+
+  pub no-jump : j ≡ false → 0 ≡ hits t (getSection i)
+  no-jump h = rw (← nowhere i j e h)
 
 module _ (s i : List ℕ) (n e : ℕ) (h : Sound s i n e) where
   pub long : n ≤ length s

@@ -6,7 +6,8 @@ ghost use Prim.Native.Nat.{_≤_};
 ghost use lib.Dec.{eqb};
 ghost use lib.ListN.{length, take};
 ghost use Rattle.rules.specs.Combine.{refs};
-ghost use Rattle.rules.specs.Word.{wordRun};
+ghost use Rattle.rules.specs.Instr.{getSection};
+ghost use Rattle.rules.specs.Word.{wordIns, wordRun};
 ghost use Rattle.rules.specs.Tables.{successOf};
 ghost use Rattle.words.specs.Told.{targetTold};
 ghost use Rattle.tables.specs.Runs.{held};
@@ -53,6 +54,17 @@ fn successors_to(s2: Section, sections: &[u64], n: usize) -> usize
     count
 }
 
+// One where it jumps to section s2, by its fields: the loop over all words then needs no branch.
+fn jumps_here(w: Instruction, s2: Section) -> usize
+    ensures { λ r. ⌜ (r ≡ hits (s2 .0) (getSection (wordIns (w .0)))) × (r ≤ 1) ⌝ }
+{
+    if w.is_jump() {
+        if w.fst() == s2.0 { 1 } else { 0 }
+    } else {
+        0
+    }
+}
+
 // How many of the first e instructions jump to s2.
 fn jumps_to(s2: Section, instructions: &[u64], e: usize) -> usize
     requires { ⌜ e ≤ length (now instructions) ⌝ }
@@ -61,7 +73,7 @@ fn jumps_to(s2: Section, instructions: &[u64], e: usize) -> usize
     let mut count: usize = 0;
     let mut i: usize = 0;
     while i < e {
-        count += reaches(Instruction(instructions[i]).get_section(), s2);
+        count += jumps_here(Instruction(instructions[i]), s2);
         i += 1;
     }
     count

@@ -20,17 +20,14 @@ loop-holds : tie.Need-loop-holds Inv-loop μ-loop
 loop-holds c =
     (search needs, search needs, omega arith)
 
-mul-t9 : tie.Need-mul-t9 Inv-loop μ-loop
-mul-t9 c = search needs
+mul-t8 : tie.Need-mul-t8 Inv-loop μ-loop
+mul-t8 c = search needs
 
-shared-slice-read-t11 : tie.Need-shared-slice-read-t11 Inv-loop μ-loop
-shared-slice-read-t11 c = search needs
+shared-slice-read-t10 : tie.Need-shared-slice-read-t10 Inv-loop μ-loop
+shared-slice-read-t10 c = search needs
 
-get-section-requires : tie.Need-get-section-requires Inv-loop μ-loop
-get-section-requires c κs = search needs
-
-reaches-requires : tie.Need-reaches-requires Inv-loop μ-loop
-reaches-requires c κs = search needs
+jumps-here-requires : tie.Need-jumps-here-requires Inv-loop μ-loop
+jumps-here-requires c κs = search needs
 
 add-count : tie.Need-add-count Inv-loop μ-loop
 add-count c = search needs
@@ -43,9 +40,9 @@ loop-less c = search needs
 
 loop-again : tie.Need-loop-again Inv-loop μ-loop
 loop-again c =
-    let l = c .before .before .before .before .loop in
-    let a = c .before .before .before .before .before .before .args in
-    (search needs, search needs, jumps-more (a .s2 .0) (a .instructions .now) (l .i) (a .e) (l .count) (c .before .before .before .loop-test .taken) (c .before .before .before .before .before .before .pre) _ _ (c .before .get-section .ensures) (c .reaches .ensures .0) ∙ l .inv .2)
+    let l = c .before .before .before .loop in
+    let a = c .before .before .before .before .before .args in
+    (search needs, search needs, jumps-more (a .s2 .0) (a .instructions .now) (l .i) (a .e) (l .count) (c .before .before .loop-test .taken) (c .before .before .before .before .before .pre) _ (c .jumps-here .ensures .0) ∙ l .inv .2)
 
 returns : tie.Need-returns Inv-loop μ-loop
 returns c =
@@ -60,10 +57,9 @@ jumps-to-spec =
     Inv-loop
     μ-loop
     loop-holds
-    mul-t9
-    shared-slice-read-t11
-    get-section-requires
-    reaches-requires
+    mul-t8
+    shared-slice-read-t10
+    jumps-here-requires
     add-count
     add-i
     loop-less
