@@ -18,7 +18,7 @@ fn changed(path: &Path) -> Option<SystemTime> {
 fn build(root: &Path) -> Result<(), String> {
     match Command::new("rt").args(["staticlib", "sezkibalo"]).current_dir(root).output() {
         Ok(out) if out.status.success() => Ok(()),
-        Ok(out) => Err(format!("`rt staticlib sezkibalo` failed: {}", String::from_utf8_lossy(&out.stderr).replace('\n', " "))),
+        Ok(_) => Err("`rt staticlib sezkibalo` failed: run it in the project's root to see why".into()),
         Err(e) => Err(format!("`rt` cannot be run ({e}): name a folder with libsezkibalo.a in SEZKIBALO_LIB")),
     }
 }
