@@ -1,5 +1,6 @@
 -- Lowering, second factor: a script becomes sections. Since a list's count of sections is known beforehand, each section is made with its final
--- number and successor, and nothing is set later. Codegen has codegen.rs's way, which sets and swaps.
+-- number and successor, and nothing is set later. The crate walks has codegen.rs's way, which sets and swaps
+-- (Codegen), and that both make the same.
 use mathlib.Core.Bool.{Bool, true, false, cond}
 use mathlib.Core.List.{List, [], _∷_, _++_, map}
 use Prim.Native.Nat.{ℕ, zero, suc, _+_}

@@ -4,11 +4,12 @@ use mathlib.Core.Bool.{Bool, true, false}
 use mathlib.Core.List.{List, [], _∷_, map}
 use Prim.Native.Nat.{ℕ, zero, suc, _/_, _%_, _^_}
 use lib.IntN.{ℤ, pos}
-use lib.ListN.{length, replicate}
+use mathlib.Core.Option.{some}
+use lib.ListN.{length, replicate, getElem?}
 use Rattle.rules.specs.Bits.{Res, refused, ok}
 use Rattle.rules.specs.Parse.{parse}
 use Rattle.rules.specs.Opcode as Op
-use Rattle.rules.specs.Instr.{Instruction, ins₁, ins₂, ins₃}
+use Rattle.rules.specs.Instr.{Instruction, ins₁, ins₂, ins₃, Row, opcodes, table}
 use Rattle.rules.specs.Constants.{mark}
 use Rattle.rules.specs.Machine.{SectionOrLine, section, line, SectionCode, Machine}
 use Rattle.rules.specs.Assemble.{inner}
@@ -34,14 +35,14 @@ unfoldable pub one-line : ℕ → List SectionCode → List ℤ → ℕ → Mach
 one-line n ss ns vs = record { lines = 1; sections = ss; numbers = ns; strings = []; pool = []; values = vs; names = replicate n mark }
 
 -- a file and what is seen of it
-pub record Row : Type 0 where
+pub record Tried : Type 0 where
   pub file : List ℕ
   pub expected : Res (ℕ × Machine)
 
 -- the starred inputs, and the sample of finlist
-unfoldable pub rows : List Row
+unfoldable pub tried : List Tried
 unfolding bytes one-line head
-rows =
+tried =
     -- the empty file; 01 00; an empty line
     record { file = []; expected = refused 3 }
     ∷ record { file = bytes 2 0x0100; expected = refused 2 }
@@ -99,9 +100,15 @@ rows =
     }
     ∷ []
 
-pub examples : map (λ (r : Row). seen (r .file)) rows ≡ map (λ (r : Row). r .expected) rows
-unfolding seen rows
+pub examples : map (λ (r : Tried). seen (r .file)) tried ≡ map (λ (r : Tried). r .expected) tried
+unfolding seen tried
 examples = refl
+
+-- ---- the order of the opcodes: at the number of each stands the row written beside its name
+
+pub opcodes-in-order : map (λ (r : ℕ × Row). getElem? table (r .0)) opcodes ≡ map (λ (r : ℕ × Row). some (r .1)) opcodes
+unfolding opcodes table
+opcodes-in-order = refl
 
 -- ---- what finlist prints for its sample: M 1 1 1 0 2, N 0 1000, S 0 1 0 0 2, I 5 0 0 0, I 4 0 1 0
 

@@ -61,64 +61,69 @@ two a = record { kinds = (a, a, unused); reads = 0 ∷ 1 ∷ []; modifies = some
 unfoldable pub test : Row
 test = record { kinds = (val, val, num); reads = 0 ∷ 1 ∷ []; modifies = some 2 }
 
--- the rows of opcodes 0 to 52, as declared
-unfoldable pub table : List Row
+-- every opcode with its row, as declared
+unfoldable pub opcodes : List (ℕ × Row)
 unfolding from-to itself two test
-table =
-    record { kinds = (place, num, unused); reads = 1 ∷ []; modifies = none }  -- 0 JumpSectionIf
-    ∷ record { kinds = (place, unused, unused); reads = []; modifies = none }  -- 1 JumpIfError
-    ∷ from-to num num  -- 2 CopyNum
-    ∷ from-to str str  -- 3 CopyStr
-    ∷ from-to val val  -- 4 CopyVal
-    ∷ from-to num val  -- 5 ValueifyNum
-    ∷ from-to str val  -- 6 ValueifyStr
-    ∷ from-to val num  -- 7 NumberifyVal
-    ∷ from-to num str  -- 8 StringifyNum
-    ∷ from-to val str  -- 9 StringifyVal
-    ∷ itself num  -- 10 IsTruthyNum
-    ∷ from-to val num  -- 11 IsTruthyVal
-    ∷ itself num  -- 12 NotNum
-    ∷ from-to val num  -- 13 NotVal
-    ∷ two num  -- 14 AddNum
-    ∷ itself num  -- 15 AddSelfNum
-    ∷ two str  -- 16 AddStr
-    ∷ itself str  -- 17 AddSelfStr
-    ∷ two val  -- 18 AddVal
-    ∷ itself val  -- 19 AddSelfVal
-    ∷ two num  -- 20 SubNum
-    ∷ two str  -- 21 SubStr
-    ∷ two val  -- 22 SubVal
-    ∷ itself val  -- 23 SubSelfVal
-    ∷ two num  -- 24 Mul
-    ∷ itself num  -- 25 MulSelf
-    ∷ two num  -- 26 Div
-    ∷ itself num  -- 27 DivSelf
-    ∷ two num  -- 28 Rem
-    ∷ itself num  -- 29 RemSelf
-    ∷ two num  -- 30 Pow
-    ∷ itself num  -- 31 PowSelf
-    ∷ test  -- 32 Eq
-    ∷ test  -- 33 Le
-    ∷ test  -- 34 Lt
-    ∷ itself num  -- 35 IncNum
-    ∷ itself str  -- 36 IncStr
-    ∷ itself val  -- 37 IncVal
-    ∷ itself num  -- 38 DecNum
-    ∷ itself str  -- 39 DecStr
-    ∷ itself val  -- 40 DecVal
-    ∷ itself num  -- 41 Abs
-    ∷ itself num  -- 42 Fact
-    ∷ itself num  -- 43 Sqrt
-    ∷ itself num  -- 44 Sin
-    ∷ itself num  -- 45 Cos
-    ∷ itself num  -- 46 Tan
-    ∷ itself num  -- 47 Asin
-    ∷ itself num  -- 48 Acos
-    ∷ itself num  -- 49 Atan
-    ∷ itself num  -- 50 Neg
-    ∷ two num  -- 51 And
-    ∷ two num  -- 52 Or
+opcodes =
+    (Op.JumpSectionIf, record { kinds = (place, num, unused); reads = 1 ∷ []; modifies = none })
+    ∷ (Op.JumpIfError, record { kinds = (place, unused, unused); reads = []; modifies = none })
+    ∷ (Op.CopyNum, from-to num num)
+    ∷ (Op.CopyStr, from-to str str)
+    ∷ (Op.CopyVal, from-to val val)
+    ∷ (Op.ValueifyNum, from-to num val)
+    ∷ (Op.ValueifyStr, from-to str val)
+    ∷ (Op.NumberifyVal, from-to val num)
+    ∷ (Op.StringifyNum, from-to num str)
+    ∷ (Op.StringifyVal, from-to val str)
+    ∷ (Op.IsTruthyNum, itself num)
+    ∷ (Op.IsTruthyVal, from-to val num)
+    ∷ (Op.NotNum, itself num)
+    ∷ (Op.NotVal, from-to val num)
+    ∷ (Op.AddNum, two num)
+    ∷ (Op.AddSelfNum, itself num)
+    ∷ (Op.AddStr, two str)
+    ∷ (Op.AddSelfStr, itself str)
+    ∷ (Op.AddVal, two val)
+    ∷ (Op.AddSelfVal, itself val)
+    ∷ (Op.SubNum, two num)
+    ∷ (Op.SubStr, two str)
+    ∷ (Op.SubVal, two val)
+    ∷ (Op.SubSelfVal, itself val)
+    ∷ (Op.Mul, two num)
+    ∷ (Op.MulSelf, itself num)
+    ∷ (Op.Div, two num)
+    ∷ (Op.DivSelf, itself num)
+    ∷ (Op.Rem, two num)
+    ∷ (Op.RemSelf, itself num)
+    ∷ (Op.Pow, two num)
+    ∷ (Op.PowSelf, itself num)
+    ∷ (Op.Eq, test)
+    ∷ (Op.Le, test)
+    ∷ (Op.Lt, test)
+    ∷ (Op.IncNum, itself num)
+    ∷ (Op.IncStr, itself str)
+    ∷ (Op.IncVal, itself val)
+    ∷ (Op.DecNum, itself num)
+    ∷ (Op.DecStr, itself str)
+    ∷ (Op.DecVal, itself val)
+    ∷ (Op.Abs, itself num)
+    ∷ (Op.Fact, itself num)
+    ∷ (Op.Sqrt, itself num)
+    ∷ (Op.Sin, itself num)
+    ∷ (Op.Cos, itself num)
+    ∷ (Op.Tan, itself num)
+    ∷ (Op.Asin, itself num)
+    ∷ (Op.Acos, itself num)
+    ∷ (Op.Atan, itself num)
+    ∷ (Op.Neg, itself num)
+    ∷ (Op.And, two num)
+    ∷ (Op.Or, two num)
     ∷ []
+
+-- the rows alone; an opcode's stands at its number (Examples: opcodes-in-order)
+unfoldable pub table : List Row
+unfolding opcodes
+table = map (λ (r : ℕ × Row). r .1) opcodes
 
 -- the kinds of an opcode's three fields; none for 53 and above
 unfoldable pub kinds : ℕ → Option (Kind × Kind × Kind)

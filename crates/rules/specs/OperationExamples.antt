@@ -1,9 +1,10 @@
 -- The operations, computed: each refusal that a small input shows, and every lent word afterwards. 9 stands in the words that must stay.
 use mathlib.Core.Path.{_≡_, refl}
 use mathlib.Core.List.{List, [], _∷_, _++_, map}
-use Prim.Native.Nat.{ℕ}
+use Prim.Native.Nat.{ℕ, suc}
 use lib.IntN.{ℤ, pos}
 use lib.ListN.{replicate}
+use Rattle.rules.specs.Constants.{mostBytes}
 use Rattle.rules.specs.Bits.{Res, refused, ok}
 use Rattle.rules.specs.Lowered.{defaults}
 use Rattle.rules.specs.Tables.{Tables, Counts}
@@ -24,7 +25,7 @@ refusedFiles =
     ∷ bytes 6 0x010100068000 ∷ bytes 7 0x01010201840610
     ∷ bytes 60 0x010100042040810204081020408102040810204081020408102040810204081020408102040810204081020408102040810204081020408102040860
     -- 9 a fill bit; a byte left over; 10 too long
-    ∷ bytes 4 0x01010001 ∷ bytes 5 0x0101000000 ∷ replicate 32769 1 ∷ []
+    ∷ bytes 4 0x01010001 ∷ bytes 5 0x0101000000 ∷ replicate (suc mostBytes) 1 ∷ []
 
 pub refusals : map size refusedFiles ≡ map refused (1 ∷ 2 ∷ 3 ∷ 3 ∷ 3 ∷ 3 ∷ 4 ∷ 4 ∷ 4 ∷ 4 ∷ 5 ∷ 6 ∷ 7 ∷ 9 ∷ 9 ∷ 10 ∷ [])
 unfolding size refusedFiles
@@ -61,7 +62,7 @@ filled ss = record {
 }
 
 unfoldable pub filledCounts : ℕ → Counts
-filledCounts n = record { lines = 1; sections = n; instrs = 2; numbers = 0; strings = 1; pool = 2; names = 1; values = 2 }
+filledCounts n = record { lines = 1; sections = n; instrs = 2; numbers = 0; strings = 1; pool = 2; values = 2; names = 1 }
 
 -- two sections, the line's and the placeholder
 pub lowered-words : lower defaults stringFile lent ≡ (ok (filledCounts 2), filled (0x8000000000008000 ∷ 0xBFFFC00080000000 ∷ 0 ∷ 0 ∷ 0 ∷ []))
@@ -88,7 +89,7 @@ machine ss is ns = record { sections = ss; instrs = is; numbers = ns; strings = 
 
 -- their counts; one value register
 unfoldable pub counted : ℕ → ℕ → ℕ → Counts
-counted s i n = record { lines = 1; sections = s; instrs = i; numbers = n; strings = 0; pool = 0; names = 0; values = 1 }
+counted s i n = record { lines = 1; sections = s; instrs = i; numbers = n; strings = 0; pool = 0; values = 1; names = 0 }
 
 -- SubNum 0 0, Lt 0 0 1, CopyNum 1 1 become CopyNum 2 0, CopyNum 3 1; two numbers are added
 pub replaced-words : replace (machine (0x800000000000C000 ∷ 9 ∷ []) (0x5000000000000000 ∷ 0x8800000000000400 ∷ 0x0800040004000000 ∷ 9 ∷ []) (pos 5 ∷ pos 6 ∷ pos 9 ∷ pos 9 ∷ pos 9 ∷ [])) (counted 1 3 2) ≡ (
@@ -108,23 +109,23 @@ unfolding replace tight counted
 no-slot = refl
 
 -- IncNum, DecNum, NotNum of number 0
-unfoldable pub three : List ℕ
-three = 0x8C00000000000000 ∷ 0x9800000000000000 ∷ 0x3000000000000000 ∷ 9 ∷ []
+unfoldable pub incDecNot : List ℕ
+incDecNot = 0x8C00000000000000 ∷ 0x9800000000000000 ∷ 0x3000000000000000 ∷ 9 ∷ []
 
 -- section 1 is unfixed and goes; section 2, whose successor it was, becomes 1 and leads to section 0
-pub cleaned-words : clean (machine (0x8000800000004000 ∷ 0x3FFFC00040004000 ∷ 0x0000400080004000 ∷ 9 ∷ []) three (pos 5 ∷ [])) (counted 3 3 1) ≡ (
+pub cleaned-words : clean (machine (0x8000800000004000 ∷ 0x3FFFC00040004000 ∷ 0x0000400080004000 ∷ 9 ∷ []) incDecNot (pos 5 ∷ [])) (counted 3 3 1) ≡ (
   ok (counted 2 2 1),
   machine (0x8000400000004000 ∷ 0x0000000040004000 ∷ 0 ∷ 9 ∷ []) (0x8C00000000000000 ∷ 0x3000000000000000 ∷ 0 ∷ 9 ∷ []) (pos 5 ∷ []),
 )
-unfolding clean machine counted three
+unfolding clean machine counted incDecNot
 cleaned-words = refl
 
 -- three sections in a row, the last a goto, are one
-pub combined-words : combine (machine (0x8000400000004000 ∷ 0x0000800040004000 ∷ 0x4000000080004000 ∷ 9 ∷ []) three (pos 5 ∷ [])) (counted 3 3 1) ≡ (
+pub combined-words : combine (machine (0x8000400000004000 ∷ 0x0000800040004000 ∷ 0x4000000080004000 ∷ 9 ∷ []) incDecNot (pos 5 ∷ [])) (counted 3 3 1) ≡ (
   ok (counted 1 3 1),
-  machine (0xC00000000000C000 ∷ 0 ∷ 0 ∷ 9 ∷ []) three (pos 5 ∷ []),
+  machine (0xC00000000000C000 ∷ 0 ∷ 0 ∷ 9 ∷ []) incDecNot (pos 5 ∷ []),
 )
-unfolding combine machine counted three
+unfolding combine machine counted incDecNot
 combined-words = refl
 
 -- ---- machines that are refused
@@ -170,6 +171,6 @@ not-combined = refl
 
 -- ---- text: `b` of a pool `ab`; nothing for a register that is not there, a word past the pool, and a word with a bit too many
 
-pub texts : map (text (0x10200 ∷ 0x10400 ∷ 0x10201 ∷ []) (97 ∷ 98 ∷ [])) (0 ∷ 1 ∷ 2 ∷ 3 ∷ []) ≡ (98 ∷ []) ∷ [] ∷ [] ∷ [] ∷ []
+pub texts-shown : map (text (0x10200 ∷ 0x10400 ∷ 0x10201 ∷ []) (97 ∷ 98 ∷ [])) (0 ∷ 1 ∷ 2 ∷ 3 ∷ []) ≡ (98 ∷ []) ∷ [] ∷ [] ∷ [] ∷ []
 unfolding text
-texts = refl
+texts-shown = refl

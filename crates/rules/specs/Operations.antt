@@ -73,8 +73,8 @@ estimate z = record {
   numbers = numbersANode * z .nodes;
   strings = z .strings;
   pool = z .characters;
-  names = z .names;
   values = 0;
+  names = z .names;
 }
 
 -- does each lent table hold its estimate?

@@ -4,6 +4,7 @@ use mathlib.Core.List.{List, [], _∷_}
 use Prim.Native.Nat.{ℕ}
 use lib.ListN.{length}
 use Rattle.rules.specs.Tree.{Tree}
+use Rattle.rules.specs.Instr.{Instruction}
 use Rattle.rules.specs.CodegenData.{CodegenData}
 use Rattle.rules.specs.Annotate.{annotate}
 use Rattle.rules.specs.Lowered.{spans, texts}
@@ -14,23 +15,26 @@ use Rattle.rules.specs.ReadScript.{readScript}
 
 -- ---- replacement in a script; p is the pool's length
 
--- all statements of a list, in the order of their sections
-abbrev pub repAll : ℕ → Regs → Stmts → Stmts × Regs
-repAll p r nil = (nil, r)
-repAll p r (plain o s) =
-    let x = replaceCode p r o in
-    let y = repAll p (x .1) s in
+-- all statements of a list, in the order of their sections; the first one's own instructions by f
+abbrev pub repBy : (Regs → List Instruction → List Instruction × Regs) → ℕ → Regs → Stmts → Stmts × Regs
+repBy f p r nil = (nil, r)
+repBy f p r (plain o s) =
+    let x = f r o in
+    let y = repBy (replaceCode p) p (x .1) s in
     (plain (x .0) (y .0), y .1)
-repAll p r (goto o k s) =
-    let x = replaceCode p r o in
-    let y = repAll p (x .1) s in
+repBy f p r (goto o k s) =
+    let x = f r o in
+    let y = repBy (replaceCode p) p (x .1) s in
     (goto (x .0) k (y .0), y .1)
-repAll p r (ite o c t f s) =
-    let x = replaceCode p r o in
-    let a = repAll p (x .1) t in
-    let b = repAll p (a .1) f in
-    let y = repAll p (b .1) s in
+repBy f p r (ite o c t e s) =
+    let x = f r o in
+    let a = repBy (replaceCode p) p (x .1) t in
+    let b = repBy (replaceCode p) p (a .1) e in
+    let y = repBy (replaceCode p) p (b .1) s in
     (ite (x .0) c (a .0) (b .0) (y .0), y .1)
+
+abbrev pub repAll : ℕ → Regs → Stmts → Stmts × Regs
+repAll p r s = repBy (replaceCode p) p r s
 
 -- the first statement's own instructions, which stand in the line's first section
 abbrev pub repFirst : ℕ → Regs → Stmts → Stmts × Regs
@@ -39,16 +43,9 @@ repFirst p r (plain o s) = let x = replaceCode p r o in (plain (x .0) s, x .1)
 repFirst p r (goto o k s) = let x = replaceCode p r o in (goto (x .0) k s, x .1)
 repFirst p r (ite o c t f s) = let x = replaceCode p r o in (ite (x .0) c t f s, x .1)
 
--- all the others
+-- all the others: the first one's own stay
 abbrev pub repRest : ℕ → Regs → Stmts → Stmts × Regs
-repRest p r nil = (nil, r)
-repRest p r (plain o s) = let y = repAll p r s in (plain o (y .0), y .1)
-repRest p r (goto o k s) = let y = repAll p r s in (goto o k (y .0), y .1)
-repRest p r (ite o c t f s) =
-    let a = repAll p r t in
-    let b = repAll p (a .1) f in
-    let y = repAll p (b .1) s in
-    (ite o c (a .0) (b .0) (y .0), y .1)
+repRest p r s = repBy (λ r₀ o. (o, r₀)) p r s
 
 -- line by line
 abbrev pub eachLine : (Regs → Stmts → Stmts × Regs) → Regs → Script → Script × Regs

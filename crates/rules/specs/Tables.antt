@@ -22,7 +22,8 @@ pub record Tables : Type 0 where
   pub pool : List ℕ
   pub names : List ℕ
 
--- the eight counts of a machine: its lines, how much of each table is in use (of the pool: characters), its value registers
+-- the eight counts of a machine: its lines, how much of each table is in use (of the pool: characters), its value registers, which have no table,
+-- and its names
 pub record Counts : Type 0 where
   pub lines : ℕ
   pub sections : ℕ
@@ -30,8 +31,8 @@ pub record Counts : Type 0 where
   pub numbers : ℕ
   pub strings : ℕ
   pub pool : ℕ
-  pub names : ℕ
   pub values : ℕ
+  pub names : ℕ
 
 -- ---- the rules
 
@@ -197,6 +198,6 @@ countsOf m = record {
   numbers = length (m .numbers);
   strings = length (m .strings);
   pool = length (m .pool);
-  names = length (m .names);
   values = m .values;
+  names = length (m .names);
 }

@@ -87,8 +87,8 @@ abbrev pub err : Instruction
 err = ins₁ Op.JumpIfError 0
 
 -- three lines, the second empty: `if .. then 2 goto 9 4 else 5 end 6`, ``, `7`
-unfoldable pub three : Script
-three =
+unfoldable pub threeLines : Script
+threeLines =
     ite (inc 1 ∷ err ∷ []) 3 (plain (inc 2 ∷ []) (goto (inc 3 ∷ []) 9 (plain (inc 4 ∷ []) nil))) (plain (inc 5 ∷ []) nil) (plain (inc 6 ∷ []) nil)
     ∷ nil
     ∷ plain (inc 7 ∷ err ∷ inc 8 ∷ []) nil
@@ -104,24 +104,24 @@ expected = (
   over (ask (atJump err)),
 )
 
-pub three-read : readScript three outcomes 9 ≡ expected
-unfolding three outcomes expected
+pub three-read : readScript threeLines outcomes 9 ≡ expected
+unfolding threeLines outcomes expected
 three-read = refl
 
-pub three-walked : walkSections (combineSections (cleanSections (sectionsOf three))) 3 outcomes 20 ≡ expected
-unfolding three outcomes expected sectionsOf cleanSections combineSections
+pub three-walked : walkSections (combineSections (cleanSections (sectionsOf threeLines))) 3 outcomes 20 ≡ expected
+unfolding threeLines outcomes expected sectionsOf cleanSections combineSections
 three-walked = refl
 
 -- the else-list, and behind the ite; an error; then a goto
 unfoldable pub expected′ : Trace
 expected′ = (inc 1 ∷ err ∷ ins₂ Op.JumpSectionIf 0 3 ∷ inc 5 ∷ inc 6 ∷ inc 7 ∷ err ∷ inc 8 ∷ inc 1 ∷ err ∷ inc 7 ∷ err ∷ [], over (ask (atJump err)))
 
-pub three-read′ : readScript three (0 ∷ 0 ∷ 0 ∷ 1 ∷ []) 9 ≡ expected′
-unfolding three expected′
+pub three-read′ : readScript threeLines (0 ∷ 0 ∷ 0 ∷ 1 ∷ []) 9 ≡ expected′
+unfolding threeLines expected′
 three-read′ = refl
 
-pub three-walked′ : walkSections (combineSections (cleanSections (sectionsOf three))) 3 (0 ∷ 0 ∷ 0 ∷ 1 ∷ []) 20 ≡ expected′
-unfolding three expected′ sectionsOf cleanSections combineSections
+pub three-walked′ : walkSections (combineSections (cleanSections (sectionsOf threeLines))) 3 (0 ∷ 0 ∷ 0 ∷ 1 ∷ []) 20 ≡ expected′
+unfolding threeLines expected′ sectionsOf cleanSections combineSections
 three-walked′ = refl
 
 -- replacement takes all lines' first sections before the others

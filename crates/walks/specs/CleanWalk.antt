@@ -58,9 +58,9 @@ fixed-keep (s ∷ m) = go (isFixed (s .success)) refl (fixed-keep m)
     go true e p = rw (e, keep) (e, p)
     go false e p = rw (e, keep) p
 
-module _ (L : ℕ) (pos : 0 < L) (m : List SectionCode) (stmtSections : (t : ℕ) → t < L → IsFixedAt m t) where
+module _ (L : ℕ) (pos : 0 < L) (m : List SectionCode) (fixed-lines : (t : ℕ) → t < L → IsFixedAt m t) where
   pub rank-low : (t : ℕ) → t < L → rank m t ≡ t
-  rank-low t h = ap pred (kept-low m t (λ u p. stmtSections u (omega arith)))
+  rank-low t h = ap pred (kept-low m t (λ u p. fixed-lines u (omega arith)))
 
   at-rank : (t : ℕ) → IsFixedAt m t → getD (cleanSections m) (rank m t) absent ≡ ren (rank m) (getD m t absent)
   unfolding cleanSections
@@ -109,5 +109,5 @@ module _ (L : ℕ) (pos : 0 < L) (m : List SectionCode) (stmtSections : (t : ℕ
   clean-ready h =
       record {
         fixed = fixed-map (rank m) (keep m) (fixed-keep m);
-        starts = λ t p. ap (λ (n : ℕ). getD (cleanSections m) n absent .lineStart) (sym (rank-low t p)) ∙ (ap (λ (s : SectionCode). s .lineStart) (at-rank t (stmtSections t p)) ∙ h t p);
+        starts = λ t p. ap (λ (n : ℕ). getD (cleanSections m) n absent .lineStart) (sym (rank-low t p)) ∙ (ap (λ (s : SectionCode). s .lineStart) (at-rank t (fixed-lines t p)) ∙ h t p);
       }

@@ -1,5 +1,5 @@
 -- Lowering as codegen.rs does it: sections are pushed to a table, successors set afterwards, and a line's first section swapped with its
--- placeholder. It gives what `sectionsOf` gives (proved in the crate walks).
+-- placeholder. It gives what `sectionsOf` of rules gives (CodegenProof).
 use mathlib.Core.Bool.{Bool, true, false, cond}
 use mathlib.Core.Option.{Option, none, some}
 use mathlib.Core.List.{List, [], _∷_, _++_}

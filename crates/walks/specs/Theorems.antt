@@ -1,4 +1,5 @@
--- The results, of every accepted tree: demand 3 and what it rests on. `Finishes` (Calls) says it of the call finish itself.
+-- The results: of every accepted tree, demand 3 and what it rests on; of every machine, what joining and combining keep. `Finishes` (Calls) and
+-- `Combines` (Handed) say it of the calls finish and combine themselves.
 use mathlib.Core.Path.{_≡_, sym, ap, ap₂, _∙_, subst}
 use mathlib.Core.Bool.{true}
 use mathlib.Core.Option.{none}
@@ -13,9 +14,9 @@ use Rattle.rules.specs.Tables.{Tables, Counts, countsOf, encode, fits}
 use Rattle.rules.specs.Annotate.{annotate}
 use Rattle.rules.specs.Assemble.{sectionsOf}
 use Rattle.rules.specs.Clean.{cleanSections, cleaned}
-use Rattle.rules.specs.Combine.{combineAt, pair}
+use Rattle.rules.specs.Combine.{combineAt, combineSections, pair}
 use Rattle.rules.specs.Lowered.{Options, assemble, lowered, finished}
-use Rattle.rules.specs.Operations.{sizeOf, estimate, cleanIn, combineIn, finish}
+use Rattle.rules.specs.Operations.{sizeOf, estimate, cleanIn, combineIn, combine, finish}
 use Rattle.rules.specs.Walk.{walkSections, walk}
 use Rattle.rules.specs.ReadScript.{readScript}
 use Rattle.rules.specs.Reading.{script, reading}
@@ -23,7 +24,7 @@ use Rattle.rules.specs.Demand.{SameWalk, Demand}
 use Rattle.walks.specs.Claim.{Alike}
 use Rattle.walks.specs.Walks.{same-walk}
 use Rattle.walks.specs.Codegen.{codegen}
-use Rattle.walks.specs.CombineWalk.{Ready, Pair, join-keeps, combine-length}
+use Rattle.walks.specs.CombineWalk.{Ready, Pair, join-keeps, combine-length, combine-keeps, combine-ends}
 use Rattle.walks.specs.FinishWalk.{low-same, clean-is}
 use Rattle.walks.specs.LimitsTree.{limits}
 use Rattle.walks.specs.Estimate.{WithinEstimate, estimated}
@@ -32,6 +33,7 @@ use Rattle.walks.specs.TreeFits.{pos, lines-are, lowered-fits, cleaned-f
 use Rattle.walks.specs.DemandProof as Proof
 use Rattle.walks.specs.Passes as Passes
 use Rattle.walks.specs.Calls.{Finishes, finishes}
+use Rattle.walks.specs.Handed.{Combines, combines}
 
 -- ---- joins, of any machine in which every section is fixed and the lines' sections are line starts
 
@@ -45,6 +47,16 @@ module _ (L : ℕ) (lines : 0 < L) (m : List SectionCode) (ready : Ready L m) (i
   -- and takes one section away, so joining ends.
   pub join-shortens : suc (length (combineAt m i j)) ≡ length m
   join-shortens = combine-length L lines m ready i j p
+
+-- Combining preserves every walk of such a machine, and ends where no pair is left.
+module _ (L : ℕ) (lines : 0 < L) (m : List SectionCode) (ready : Ready L m) where
+  pub combine-preserves : (os : List ℕ) → Alike (walkSections (combineSections m) L os) (walkSections m L os)
+  combine-preserves os =
+      let k = combine-keeps L lines m ready in
+      same-walk (walkSections (combineSections m) L os) (walkSections m L os) (k .back os) (k .there os)
+
+  pub combine-leaves-none : pair (combineSections m) ≡ none
+  combine-leaves-none = combine-ends L lines m ready
 
 -- ---- a tree
 
@@ -116,7 +128,12 @@ module _ (o : Options) (s : List ℕ) (t : Tree) (accepted : parse s ≡ ok t) w
   pub demand3 : (os : List ℕ) → Demand o t os
   demand3 = Proof.demand3 o s t accepted
 
--- ---- the call
+-- ---- the calls
+
+-- For every machine that is handed to combine and not refused: the words that it leaves are those of the combined machine, whose walks are those of
+-- the one handed in, and which has no pair.
+pub combine-handed : (l : Tables) (u v : Counts) → combine l u .0 ≡ ok v → Combines l u v
+combine-handed = combines
 
 -- For every byte string and lent tables that finish does not refuse: the words that it leaves are the finished machine of the tree that was
 -- read, and demand 3 holds of it for every list of outcomes.
