@@ -261,10 +261,11 @@ pub fn change(op: Op, counts: &Counts, lent: &Tables) -> (Answer<Counts>, Tables
 
 // ---- text
 
-/// Where a string register's text stands in the pool; empty at the pool's end where register or word is bad.
+/// Where a string register's text stands in the pool; empty at the pool's end where register or word is bad. A table counts 65,535 words at
+/// most: what stands behind is no register's.
 pub fn text(strings: &[u32], pool: &[u8], register: usize) -> (usize, usize) {
     match strings.get(register) {
-        Some(&word) if span_fits(pool.len(), word) => {
+        Some(&word) if register < MOST_COUNT && span_fits(pool.len(), word) => {
             let span = Span::of_word(word);
             (span.start.into(), span.length.into())
         }

@@ -14,7 +14,7 @@ const USAGE: &str = "usage:
   oracle self-test SEED COUNT
   oracle walks SEED COUNT
   oracle theorems trees|damaged|machines|finlist|texts|limits|instr|walks SEED COUNT DIR
-  oracle record trees|machines SEED";
+  oracle record trees|machines|texts SEED";
 
 fn machine_line(machine: &machine::Machine) -> String {
     let (counts, tables) = machine::pack(machine);
@@ -106,6 +106,7 @@ fn run(words: &[&str]) -> Option<String> {
         ["generate", kind, seed, count, most] => generate_command(kind, seed, count, most.parse().ok()?),
         ["record", "trees", seed] => Some(record::of_trees(seed.parse().ok()?)),
         ["record", "machines", seed] => Some(record::of_machines(seed.parse().ok()?)),
+        ["record", "texts", seed] => Some(record::of_texts(seed.parse().ok()?)),
         ["theorems", kind, seed, count, folder] => theorems_command(kind, seed, count, folder),
         ["self-test", seed, count] => report_command(selftest::run, seed, count),
         ["walks", seed, count] => report_command(walks::run, seed, count),

@@ -1,8 +1,8 @@
 //! Recorded answers for others to replay: one case a line, parts parted by `;`. See README.md.
 
 use crate::bits::hex;
-use crate::generate::{damaged, machines, trees};
-use crate::judge::{change, machine_of, Answer, Options, Stage};
+use crate::generate::{damaged, machines, texts, trees};
+use crate::judge::{change, machine_of, text, Answer, Options, Stage};
 use crate::line;
 use crate::machine::{pack, Machine};
 use crate::rng::Rng;
@@ -13,6 +13,7 @@ const VALID: usize = 190;
 const DAMAGED: usize = 130;
 const LARGER: usize = 6;
 const MACHINES: usize = 240;
+const TEXTS: usize = 80;
 const SMALL_BYTES: usize = 100;
 const LARGER_BYTES: usize = 400;
 
@@ -90,5 +91,17 @@ pub fn of_machines(seed: u64) -> String {
         lines.push(format!("M;{};{};{answer}", op.name(), line::print(&counts, &tables)));
     }
     require(&seen, &MACHINE_REFUSALS);
+    lines.join("\n")
+}
+
+pub fn of_texts(seed: u64) -> String {
+    let mut rng = Rng::new(seed);
+    let line = |case: texts::Case| {
+        let (start, length) = text(&case.strings, &case.pool, case.register);
+        let words: Vec<String> = case.strings.iter().map(|w| format!("{w:x}")).collect();
+        let shown = hex(&case.pool[start..start + length]);
+        format!("X;{};{};{};{shown}", words.join(" "), hex(&case.pool), case.register)
+    };
+    let lines: Vec<String> = (0..TEXTS).map(|_| line(texts::case(&mut rng))).collect();
     lines.join("\n")
 }

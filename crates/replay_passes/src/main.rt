@@ -1,13 +1,16 @@
-// Replays recorded machines: each line of standard input has an operation, a machine, and what the judge says of both (oracle/README.md).
-// Prints how many machines agree: answer, counts and every lent word.
+// Replays recorded machines and texts: each line of standard input has an operation, a machine, and what the judge says of both; or string words, a
+// pool, a register, and its text (oracle/README.md). Prints how many agree: answer, counts and every lent word; every byte of a text.
 //
 // It has no contract but to be safe and to end; what it prints is compared.
 ghost use Prim.Native.Nat.{_≤_};
 ghost use lib.ListN.{length};
 use libc::STDIN_FILENO;
 use recorded::machine;
+use recorded::rows;
 use tables::answer::Answer;
 use tables::counts::Counts;
+use tables::text::text;
+use words::instr::StrReg;
 
 // The operation by the second letter of its name: replace, clean, combine.
 fn operate(
@@ -126,8 +129,48 @@ fn read(
     )
 }
 
+// Is this the text of a register?
+fn text_agrees(strings: &[u32], pool: &[u8], register: u16, row: &[u8]) -> bool {
+    rows::spells_bytes(row, text(strings, pool, StrReg(register)))
+}
+
+// The same with string words and pool read into lent spaces.
+fn read_text(
+    words: &[u8],
+    chars: &[u8],
+    register: u16,
+    row: &[u8],
+    strings: &mut [u32],
+    pool: &mut [u8],
+) -> bool {
+    let n = rows::read32(words, strings);
+    let p = recorded::bytes(chars, pool);
+    text_agrees(&strings[..n], &pool[..p], register, row)
+}
+
+// A line: X, the string words, the pool, the register, its text, parted by `;`.
+fn text_line(text: &[u8]) -> bool {
+    let words = recorded::part(text, 1, b';');
+    let words_end = recorded::until(text, words, b';');
+    let chars = recorded::part(text, 2, b';');
+    let chars_end = recorded::until(text, chars, b';');
+    let register = recorded::part(text, 3, b';');
+    let register_end = recorded::until(text, register, b';');
+    let row = recorded::part(text, 4, b';');
+    let mut strings = [0u32; 32];
+    let mut pool = [0u8; 128];
+    read_text(
+        &text[words..words_end],
+        &text[chars..chars_end],
+        (recorded::decimal(&text[register..register_end]) % 65536) as u16,
+        &text[row..],
+        &mut strings,
+        &mut pool,
+    )
+}
+
 // A line: M, the operation, the machine before it, the row, parted by `;`.
-fn line(text: &[u8]) -> bool {
+fn machine_line(text: &[u8]) -> bool {
     let operation = recorded::part(text, 1, b';');
     let before = recorded::part(text, 2, b';');
     let end = recorded::until(text, before, b';');
@@ -154,8 +197,19 @@ fn line(text: &[u8]) -> bool {
     )
 }
 
+// A line of either kind, by its letter.
+fn line(text: &[u8]) -> bool {
+    if text.len() == 0 {
+        return false;
+    }
+    if text[0] == b'X' {
+        return text_line(text);
+    }
+    machine_line(text)
+}
+
 fn print(agree: u64, cases: u64) {
-    recorded::print(agree, cases, b" machines agree\n");
+    recorded::print(agree, cases, b" machines and texts agree\n");
 }
 
 // All lines of a text.

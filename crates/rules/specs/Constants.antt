@@ -114,6 +114,11 @@ instrsANode = 9
 abbrev pub numbersANode : ℕ
 numbersANode = 2
 
+-- ---- a text's place in one number: the bits of its length, and of its start
+
+abbrev pub spotBits : ℕ
+spotBits = 32
+
 -- ---- finlist: the bytes that it reads at most, and the words that it lends
 
 abbrev pub finlistBytes : ℕ

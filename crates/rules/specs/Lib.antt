@@ -36,3 +36,4 @@ pub mod Listing
 pub mod Examples
 pub mod OperationExamples
 pub mod WalkExamples
+pub mod DemandExamples

@@ -4,11 +4,11 @@ use mathlib.Core.List.{List, [], _∷_, _++_, map}
 use Prim.Native.Nat.{ℕ, suc}
 use lib.IntN.{ℤ, pos}
 use lib.ListN.{replicate}
-use Rattle.rules.specs.Constants.{mostBytes}
+use Rattle.rules.specs.Constants.{mostBytes, mostCount}
 use Rattle.rules.specs.Bits.{Res, refused, ok}
 use Rattle.rules.specs.Lowered.{defaults}
 use Rattle.rules.specs.Tables.{Tables, Counts}
-use Rattle.rules.specs.Operations.{size, lower, finish, replace, clean, combine, text}
+use Rattle.rules.specs.Operations.{size, lower, finish, replace, clean, combine, text, textSpot}
 use Rattle.rules.specs.Examples.{bytes}
 
 -- ---- size
@@ -174,3 +174,13 @@ not-combined = refl
 pub texts-shown : map (text (0x10200 ∷ 0x10400 ∷ 0x10201 ∷ []) (97 ∷ 98 ∷ [])) (0 ∷ 1 ∷ 2 ∷ 3 ∷ []) ≡ (98 ∷ []) ∷ [] ∷ [] ∷ [] ∷ []
 unfolding text
 texts-shown = refl
+
+-- their places: start 1 and length 1; the pool's end
+pub spots : map (textSpot (0x10200 ∷ 0x10400 ∷ 0x10201 ∷ []) (97 ∷ 98 ∷ [])) (0 ∷ 1 ∷ 2 ∷ 3 ∷ []) ≡ 0x100000001 ∷ 0x200000000 ∷ 0x200000000 ∷ 0x200000000 ∷ []
+unfolding textSpot
+spots = refl
+
+-- of 65,536 words the last is no register's
+pub last-text : map (text (replicate (suc mostCount) 0x10200) (97 ∷ 98 ∷ [])) (65534 ∷ 65535 ∷ []) ≡ (98 ∷ []) ∷ [] ∷ []
+unfolding text
+last-text = refl

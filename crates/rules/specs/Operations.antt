@@ -2,11 +2,11 @@
 use mathlib.Core.Bool.{Bool, true, false, not, _&&_, _||_}
 use mathlib.Core.List.{List, [], _∷_, _++_}
 use mathlib.Core.Option.{Option, none, some}
-use Prim.Native.Nat.{ℕ, zero, suc, _+_, _*_, _-_, max}
-use lib.Dec.{leb, eqb}
+use Prim.Native.Nat.{ℕ, zero, suc, _+_, _*_, _-_, _^_, min, max}
+use lib.Dec.{leb, ltb, eqb}
 use lib.IntN.{ℤ, pos}
 use lib.ListN.{length, take, drop, getD, getElem?, replicate}
-use Rattle.rules.specs.Constants.{mostCount, sectionsAStatement, instrsANode, numbersANode}
+use Rattle.rules.specs.Constants.{mostCount, sectionsAStatement, instrsANode, numbersANode, spotBits}
 use Rattle.rules.specs.Refusal as Refusal
 use Rattle.rules.specs.Bits.{Res, refused, ok}
 use Rattle.rules.specs.Tree.{Tree, Tally, ofLines}
@@ -173,10 +173,14 @@ combine = change combineIn
 
 -- ---- text
 
+-- the word of string register r, if there is one: a table counts 65,535 words at most, so what stands behind those is no register's
+unfoldable pub stringWord : List ℕ → ℕ → Option ℕ
+stringWord strings r = elim (ltb r mostCount) [ false ↦ none | true ↦ getElem? strings r ]
+
 -- the place of register r's text in the pool; empty, at the pool's end, where register or word is bad
 unfoldable pub textSpan : List ℕ → List ℕ → ℕ → Span
-unfolding wordSpan spanSpare
-textSpan strings pool r = elim (getElem? strings r) [
+unfolding stringWord wordSpan spanSpare
+textSpan strings pool r = elim (stringWord strings r) [
   | none ↦ record { start = length pool; size = 0 }
   | some w ↦ (let t = wordSpan w in elim (eqb (spanSpare w) 0 && leb (t .start + t .size) (length pool)) [ true ↦ t | false ↦ record { start = length pool; size = 0 } ])
 ]
@@ -185,3 +189,12 @@ textSpan strings pool r = elim (getElem? strings r) [
 unfoldable pub text : List ℕ → List ℕ → ℕ → List ℕ
 unfolding textSpan
 text strings pool r = let t = textSpan strings pool r in take (t .size) (drop (t .start) pool)
+
+-- the place as one number, for a caller to whom no part of the pool can be handed back: start × 2^32 + length; the end of a pool that is longer is said
+-- as 2^32 - 1
+abbrev pub spotOf : Span → ℕ
+spotOf t = min (t .start) (2 ^ spotBits - 1) * 2 ^ spotBits + t .size
+
+unfoldable pub textSpot : List ℕ → List ℕ → ℕ → ℕ
+unfolding textSpan
+textSpot strings pool r = spotOf (textSpan strings pool r)

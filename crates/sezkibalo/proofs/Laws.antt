@@ -4,16 +4,18 @@ use mathlib.Core.List.{List}
 use Prim.Native.Nat.{ℕ, _≤_, _<_}
 use lib.ListN.{length}
 use borrow.Author.Tests.{lt-ltb, le-ltb}
-use Rattle.rules.specs.Word.{Span}
+use Rattle.rules.specs.Constants.{mostCount}
 use Rattle.rules.specs.Bits.{Res, refused, ok}
 use Rattle.rules.specs.Lowered.{Options}
-use Rattle.rules.specs.Operations.{Size, size, textSpan}
+use Rattle.rules.specs.Operations.{Size, size, textSpan, spotOf, textSpot}
 use Rattle.rules.specs.Tables.{Tables, Counts}
-use Rattle.sezkibalo.specs.Calls.{sizeAnswer, sizeCall, spotOf, textCall, front, countsRow, rowCounts, answerRow, beside, changeCall, optionsOf, buildCall}
+use Rattle.sezkibalo.specs.Calls.{sizeAnswer, sizeCall, front, countsRow, rowCounts, answerRow, beside, changeCall, optionsOf, buildCall}
 use Rattle.tables.specs.declared.counts.Counts.{Counts as Lent}
 use Rattle.tables.specs.declared.answer.Answer.{Answer}
 use Rattle.tables.specs.declared.answer.Answer.the-variants.{Done, Refused}
 use Rattle.tables.specs.Lent.{countsTold, answerTold}
+use Rattle.tables.proofs.Texts.{past-registers}
+use Rattle.words.specs.Runs.{span}
 
 -- `counts` is too short
 pub size-short : (s c : List ℕ) → length c < 6 → (11, c) ≡ sizeCall s c
@@ -59,10 +61,10 @@ told-done a d c k e w = ap (λ (z : List ℕ). (0, z)) w ∙ ap (λ (z : Answer)
 
 -- ---- text
 
-pub text-bad : (ts p : List ℕ) (r : ℕ) → 65535 < r → spotOf (length p) 0 ≡ textCall ts p r
-unfolding textCall
-text-bad ts p r h = sym (rw (lt-ltb 65535 r h, textCall))
+pub text-placed : (ts p : List ℕ) (r s n : ℕ) → span s n ≡ textSpan ts p r → spotOf (span s n) ≡ textSpot ts p r
+unfolding textSpot
+text-placed ts p r s n e = ap spotOf e
 
-pub text-placed : (ts p : List ℕ) (r s n : ℕ) → r ≤ 65535 → record { start = s; size = n } ≡ textSpan ts p r → spotOf s n ≡ textCall ts p r
-unfolding textCall
-text-placed ts p r s n h e = ap (λ (z : Span). spotOf (z .start) (z .size)) e ∙ sym (rw (le-ltb 65535 r h, textCall))
+-- no register has the number
+pub text-bad : (ts p : List ℕ) (r : ℕ) → mostCount ≤ r → spotOf (span (length p) 0) ≡ textSpot ts p r
+text-bad ts p r h = text-placed ts p r (length p) 0 (past-registers ts p r h)

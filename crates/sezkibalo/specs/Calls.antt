@@ -1,16 +1,15 @@
 -- What each call through the static library answers, and what is lent afterwards: document 01's operations with plain numbers. 0 is an
--- answer that does not refuse.
+-- answer that does not refuse. Text answers `textSpot` of rules.
 use mathlib.Core.Bool.{true, false}
 use mathlib.Core.List.{List, [], _∷_, _++_}
-use Prim.Native.Nat.{ℕ, _+_, _*_, _/_, _%_, _^_, _-_, min}
+use Prim.Native.Nat.{ℕ, _/_, _%_}
 use lib.Dec.{ltb, eqb}
 use lib.ListN.{length, drop, getD}
-use Rattle.rules.specs.Constants.{mostCount}
 use Rattle.rules.specs.Refusal as Refusal
 use Rattle.rules.specs.Bits.{Res, refused, ok}
 use Rattle.rules.specs.Tables.{Tables, Counts}
 use Rattle.rules.specs.Lowered.{Options}
-use Rattle.rules.specs.Operations.{Size, size, textSpan}
+use Rattle.rules.specs.Operations.{Size, size}
 
 -- numbers at the start of a lent list, the rest as it was
 abbrev pub front : List ℕ → List ℕ → List ℕ
@@ -44,8 +43,8 @@ rowCounts c = record {
   numbers = getD c 3 0;
   strings = getD c 4 0;
   pool = getD c 5 0;
-  names = getD c 7 0;
   values = getD c 6 0;
+  names = getD c 7 0;
 }
 
 -- an answer as a number, and the lent list behind it
@@ -69,13 +68,3 @@ optionsOf n = record { locals = eqb (n % 2) 1; globals = eqb (n / 2 % 2) 1 }
 -- an operation f on the tree file s: as above, and the counts that are lent are not read
 abbrev pub buildCall : (Options → List ℕ → Tables → Res Counts × Tables) → List ℕ → ℕ → List ℕ → Tables → ℕ × List ℕ × Tables
 buildCall f s n = changeCall (λ t u. f (optionsOf n) s t)
-
--- ---- text
-
--- a start and a length in one number; a start above 2^32 - 1 is said as that
-abbrev pub spotOf : ℕ → ℕ → ℕ
-spotOf s n = min s (2 ^ 32 - 1) * 2 ^ 32 + n
-
--- sezkibalo_text: no register has a number above 65,535
-unfoldable pub textCall : List ℕ → List ℕ → ℕ → ℕ
-textCall ts p r = elim (ltb mostCount r) [ true ↦ spotOf (length p) 0 | false ↦ spotOf (textSpan ts p r .start) (textSpan ts p r .size) ]

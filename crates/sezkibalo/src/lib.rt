@@ -8,8 +8,9 @@ pub mod counts;
 ghost use mathlib.Core.Path.{_≡_};
 ghost use Prim.Native.Nat.{_<_};
 ghost use Rattle.rules.specs.Operations as Operations;
+ghost use Rattle.words.specs.Runs.{span};
 ghost use Rattle.tables.specs.Lent.{tables};
-ghost use Rattle.sezkibalo.specs.Calls.{spotOf, sizeCall, changeCall, textCall};
+ghost use Rattle.sezkibalo.specs.Calls.{sizeCall, changeCall};
 use counts::EIGHT;
 use counts::SIX;
 use counts::answered;
@@ -21,8 +22,8 @@ use tables::text::text_place;
 use tree::SizeAnswer;
 use words::instr::StrReg;
 
-// The largest register number.
-const MOST_REGISTER: u64 = Counts::MOST as u64;
+// Registers are below this.
+const REGISTERS: u64 = Counts::MOST as u64;
 
 // The largest start that a spot can say.
 const MOST_START: usize = 4294967295;
@@ -30,7 +31,7 @@ const MOST_START: usize = 4294967295;
 // A start and a length in one number.
 fn spot(start: usize, length: usize) -> u64
     requires { ⌜ length < 128 ⌝ }
-    ensures { λ r. ⌜ r ≡ spotOf start length ⌝ }
+    ensures { λ r. ⌜ r ≡ Operations.spotOf (span start length) ⌝ }
 {
     if start > MOST_START {
         return MOST_START as u64 * 4294967296 + length as u64;
@@ -119,13 +120,12 @@ pub extern "C" fn sezkibalo_combine(
     answered(counts, a)
 }
 
-// The place of a string register's text in the pool, start × 2^32 + length; empty, at the pool's end, where register or word is bad. A pool that
-// ends behind 2^32 - 1 ends there.
+// The place of a string register's text in the pool, start × 2^32 + length; empty, at the pool's end, where register or word is bad.
 #[no_mangle]
 pub extern "C" fn sezkibalo_text(strings: &[u32], pool: &[u8], register: u64) -> u64
-    ensures { λ r. ⌜ r ≡ textCall (now (strings .entry)) (now (pool .entry)) register ⌝ }
+    ensures { λ r. ⌜ r ≡ Operations.textSpot (now (strings .entry)) (now (pool .entry)) register ⌝ }
 {
-    if register > MOST_REGISTER {
+    if register >= REGISTERS {
         return spot(pool.len(), 0);
     }
     let p = text_place(strings, pool, StrReg(register as u16));

@@ -3,6 +3,7 @@ ghost use mathlib.Core.Path.{_≡_};
 ghost use Prim.Native.Nat.{_+_};
 ghost use Rattle.rules.specs.Operations as Operations;
 ghost use Rattle.tables.specs.Lent.{placeTold};
+use crate::counts::Counts;
 use words::instr::StrReg;
 use words::text::StringWord;
 
@@ -21,6 +22,9 @@ pub fn text_place(strings: &[u32], pool: &[u8], register: StrReg) -> Place
         length: 0,
     };
     let at = register.0 as usize;
+    if at >= Counts::MOST {
+        return end;
+    }
     if at >= strings.len() {
         return end;
     }

@@ -123,6 +123,7 @@ combine-fixed t m r e = first (all fixedHere (m .sections)) refl e
     then : (b : Bool) → elim b [ false ↦ refused Refusal.linksBack | true ↦ ok (combined m) ] ≡ ok r → combined m ≡ r
     then false q = absurd (refused≢ok Refusal.linksBack r q)
     then true q = ap (value r) q
+
     first : (b : Bool) → all fixedHere (m .sections) ≡ b → elim b [ false ↦ refused Refusal.isUnfixed | true ↦ elim (allAhead (m .sections) 0 (m .sections)) [ false ↦ refused Refusal.linksBack | true ↦ ok (combined m) ] ] ≡ ok r → (Fixed (m .sections)) × (combined m ≡ r)
     first false p q = absurd (refused≢ok Refusal.isUnfixed r q)
     first true p q = (fixed (m .sections) p, then (allAhead (m .sections) 0 (m .sections)) q)
@@ -159,9 +160,11 @@ combines t u v e = from (decode t u) refl (begins t u)
           same = λ os. same-walk (walkSections (combineSections (m .sections)) (m .lines) os) (walkSections (m .sections) (m .lines) os) (k .back os) (k .there os);
           noPair = combine-ends (m .lines) (b .0) (m .sections) ready;
         }
+
     through : (m : Machine) → decode t u ≡ ok m → Begins (ok m) → (x : Res Machine) → combineIn t m ≡ x → Combines t u v
     through m p b (refused n) q = absurd (refused≢ok n v (sym (not-combined t u m n p q) ∙ e))
     through m p b (ok r) q = kept m r p b q
+
     from : (x : Res Machine) → decode t u ≡ x → Begins x → Combines t u v
     from (refused n) p b = absurd (refused≢ok n v (sym (no-machine t u n p) ∙ e))
     from (ok m) p b = through m p b (combineIn t m) refl

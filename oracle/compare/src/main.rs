@@ -8,6 +8,8 @@ mod tally;
 
 use oracle::generate::machines::{self, Case};
 use oracle::judge::{self, Answer, Op};
+use oracle::limits::MOST_COUNT;
+use oracle::machine::Span;
 use oracle::rng::Rng;
 use std::process::ExitCode;
 use tally::{each_file, Tally, A_BATCH, GUARD};
@@ -83,15 +85,27 @@ fn compare_short(tally: &mut Tally, rng: &mut Rng, case: &Case) {
 fn compare_text(tally: &mut Tally, rng: &mut Rng, case: &Case) {
     let (strings, pool) = (&case.2.strings, &case.2.pool);
     let register = if rng.chance(10) { rng.next() } else { rng.below(strings.len() + 2) as u64 };
-    let (start, length) = if register > 65_535 { (pool.len(), 0) } else { judge::text(strings, pool, register as usize) };
-    let got = library::text(strings, pool, register);
-    let same = got == (start as u64, length as u64);
+    let same = same_text(strings, pool, register);
     tally.count(false, same, &|| format!("{register} {}", oracle::line::print(&case.1, &case.2)));
+}
+
+fn same_text(strings: &[u32], pool: &[u8], register: u64) -> bool {
+    let (start, length) = judge::text(strings, pool, register as usize);
+    library::text(strings, pool, register) == (start as u64, length as u64)
+}
+
+/// More words than a table counts: the last register, and numbers behind it that are none.
+fn compare_last_texts(tally: &mut Tally) {
+    let strings = vec![Span { start: 1, length: 1 }.word(); MOST_COUNT + 3];
+    for register in MOST_COUNT as u64 - 2..MOST_COUNT as u64 + 4 {
+        tally.count(false, same_text(&strings, b"ab", register), &|| format!("register {register}"));
+    }
 }
 
 fn compare_machines(seed: u64, count: usize) -> Vec<Tally> {
     let mut tallies: Vec<Tally> = Op::ALL.iter().map(|op| Tally::new(op.name())).collect();
     let (mut short, mut text) = (Tally::new("too few counts"), Tally::new("text"));
+    compare_last_texts(&mut text);
     let mut rng = Rng::new(seed);
     let mut done = 0;
     let mut batch = 0;

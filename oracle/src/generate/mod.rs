@@ -6,6 +6,7 @@ pub mod fixed;
 pub mod fixed_machines;
 pub mod machines;
 pub mod outcomes;
+pub mod texts;
 pub mod trees;
 
 /// Takes from several lists in turn until all have run out.

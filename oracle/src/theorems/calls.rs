@@ -5,11 +5,11 @@ use super::terms::*;
 use super::Theorem;
 use crate::bits::hex;
 use crate::finlist::finlist;
-use crate::generate::{fixed, machines, trees};
+use crate::generate::{fixed, machines, texts, trees};
 use crate::judge::{build, change, estimate, size, text, Answer, Options, Stage};
 use crate::limits::{MOST_BYTES, MOST_NODES};
 use crate::line;
-use crate::machine::{Counts, Span, Tables};
+use crate::machine::{Counts, Tables};
 use crate::rng::Rng;
 use crate::tree::encode;
 
@@ -82,8 +82,8 @@ pub fn finlist_theorem(bytes: &[u8]) -> Theorem {
     }
 }
 
-fn text_theorem(strings: &[u32], pool: &[u8], register: usize) -> Theorem {
-    let (start, length) = text(strings, pool, register);
+fn text_theorem(texts::Case { strings, pool, register }: &texts::Case) -> Theorem {
+    let (start, length) = text(strings, pool, *register);
     Theorem {
         operation: names::TEXT,
         unfolds: names::TEXT,
@@ -164,23 +164,6 @@ pub fn limits() -> Vec<Theorem> {
     out
 }
 
-/// String words inside the pool, at its end, past it, and with a spare bit.
 pub fn texts(rng: &mut Rng, count: usize) -> Vec<Theorem> {
-    let word = |rng: &mut Rng| {
-        let span = Span {
-            start: rng.below(8) as u16,
-            length: rng.below(6) as u8,
-        };
-        let spare = if rng.chance(15) { 1 << rng.below(9) } else { 0 };
-        span.word() | spare
-    };
-    (0..count)
-        .map(|_| {
-            let length = rng.below(9);
-            let pool = old(rng, length, |w| w as u8);
-            let strings: Vec<u32> = (0..rng.below(4)).map(|_| word(rng)).collect();
-            let register = rng.below(strings.len() + 1);
-            text_theorem(&strings, &pool, register)
-        })
-        .collect()
+    (0..count).map(|_| text_theorem(&texts::case(rng))).collect()
 }

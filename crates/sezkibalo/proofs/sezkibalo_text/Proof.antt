@@ -1,4 +1,4 @@
--- `sezkibalo_text` answers what `textCall` says. Assumes nothing.
+-- `sezkibalo_text` answers what `textSpot` says. Assumes nothing.
 use mathlib.Core.Path.{_∙_}
 use Rattle.tables.proofs.Texts.{place-short}
 use Rattle.sezkibalo.proofs.Laws.{text-bad, text-placed}
@@ -22,7 +22,7 @@ spot-requires-2 : tie.Need-spot-requires-2
 spot-requires-2 c κs = place-short _ _ _ _ _ (c .text-place .ensures)
 
 returns-2 : tie.Need-returns-2
-returns-2 c = c .spot2 .ensures ∙ text-placed _ _ _ _ _ (c .before .before .if1 .left) (c .before .text-place .ensures)
+returns-2 c = c .spot2 .ensures ∙ text-placed _ _ _ _ _ (c .before .text-place .ensures)
 
 pub sezkibalo-text-spec : {M : Type 1} → statement M
 sezkibalo-text-spec =
