@@ -1,5 +1,11 @@
 /* Sezkibalo's static library. A slice is a pointer to its first word and its length in words.
-   Each call but sezkibalo_text answers 0, or the number of its refusal and has then written nothing. */
+   Each call but sezkibalo_text answers 0, or the number of its refusal and has then written nothing.
+
+   What is in the slices, and how long they are, is up to the caller: no call asks anything of it. But they must be slices:
+   - each pointer is aligned for its words and not null, also where the length is 0;
+   - all of its words can be read, and written where the pointer is not to const, until the call is over;
+   - no slice that a call may write overlaps another slice of that call. Those that are only read may overlap each other.
+   A call keeps no pointer, has no state of its own, and may be made on several threads at once with slices of their own. */
 #ifndef SEZKIBALO_H
 #define SEZKIBALO_H
 
@@ -46,7 +52,8 @@ uint64_t sezkibalo_combine(uint64_t *counts, size_t counts_len, uint64_t *sectio
                            uint32_t *strings, size_t strings_len, const uint8_t *pool, size_t pool_len,
                            const uint16_t *names, size_t names_len);
 
-/* The place of a string register's text in the pool: start * 2^32 + length; empty, at the pool's end, where register or word is bad. */
+/* The place of a string register's text in the pool: start * 2^32 + length; empty, at the pool's end, where register or word is bad.
+   No register has the number 65,535 or more. The end of a pool of more than 2^32 - 1 characters is said as 2^32 - 1. */
 uint64_t sezkibalo_text(const uint32_t *strings, size_t strings_len, const uint8_t *pool, size_t pool_len, uint64_t reg);
 
 #endif

@@ -1,4 +1,7 @@
 //! The library's calls on lent slices, without any table of their own. A refused call writes nothing.
+//!
+//! What the C calls ask of a pointer, any safe slice gives: it is aligned, not null even where it is empty, its words stay there for the call, and what
+//! is lent by `&mut` overlaps nothing else. So these functions ask nothing.
 
 use crate::Refusal;
 
@@ -123,13 +126,15 @@ fn answered<T>(number: u64, done: T) -> Result<T, Refusal> {
 /// Lines, names, statements, nodes, strings and characters of a tree in the tree form.
 pub fn size(tree: &[u8]) -> Result<Size, Refusal> {
     let mut row = [0u64; 6];
-    // SAFETY: the library is proved to read and write within the lent slices, and keeps none of them. So in every call below.
+    // SAFETY: the pointers are those of slices, so they are aligned and not null, and those lent for writing overlap no other; the library is
+    // proved to read and write within the lent slices, and keeps none of them. So in every call below.
     let number = unsafe { sezkibalo_size(tree.as_ptr(), tree.len(), row.as_mut_ptr(), row.len()) };
     let [lines, names, statements, nodes, strings, characters] = row.map(|n| n as usize);
     answered(number, Size { lines, names, statements, nodes, strings, characters })
 }
 
-/// The text of a string register, as that part of the pool; empty, at the pool's end, where register or word is bad.
+/// The text of a string register, as that part of the pool; empty, at the pool's end, where register or word is bad. No register has the number 65,535
+/// or more. (In a pool of more than 2^32 - 1 characters the empty text stands behind that many.)
 pub fn text<'a>(strings: &[u32], pool: &'a [u8], register: u64) -> &'a [u8] {
     // SAFETY: as above.
     let spot = unsafe { sezkibalo_text(strings.as_ptr(), strings.len(), pool.as_ptr(), pool.len(), register) };

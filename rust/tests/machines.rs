@@ -58,6 +58,18 @@ fn finished_is_lowered_cleaned_and_combined() {
 }
 
 #[test]
+fn the_last_text() {
+    let strings = vec![1 << 16 | 1 << 9; 65_536];
+    assert_eq!(raw::text(&strings, b"ab", 65_534), b"b");
+    for register in [65_535, 65_536, u64::MAX] {
+        let text = raw::text(&strings, b"ab", register);
+        assert!(text.is_empty());
+    }
+    // nothing of a machine at all: slices that are empty
+    assert!(raw::text(&[], &[], 0).is_empty());
+}
+
+#[test]
 fn names_numbers_and_texts() {
     let text = Statement::Assign(Ident::global("g"), None, Expr::String("hi".into()));
     let script = one_line(vec![text, assign("x", Expr::Number(Number(i64::MIN)))]);

@@ -26,29 +26,20 @@ pub extern "C" fn sezkibalo_lower(
     tree: &[u8],
     options: u64,
     sections: &mut [u64],
-    instructions: &mut [u64],
+    instrs: &mut [u64],
     numbers: &mut [i64],
     strings: &mut [u32],
     pool: &mut [u8],
     names: &mut [u16],
     counts: &mut [u64],
 ) -> u64
-    ensures { λ r. ⌜ (r, now (counts .exit), tables (now (sections .exit)) (now (instructions .exit)) (now (numbers .exit)) (now (strings .exit)) (now (pool .exit)) (now (names .exit))) ≡ buildCall Operations.lower (now (tree .entry)) options (now (counts .entry)) (tables (now (sections .entry)) (now (instructions .entry)) (now (numbers .entry)) (now (strings .entry)) (now (pool .entry)) (now (names .entry))) ⌝ }
+    ensures { λ r. ⌜ (r, now (counts .exit), tables (now (sections .exit)) (now (instrs .exit)) (now (numbers .exit)) (now (strings .exit)) (now (pool .exit)) (now (names .exit))) ≡ buildCall Operations.lower (now (tree .entry)) options (now (counts .entry)) (tables (now (sections .entry)) (now (instrs .entry)) (now (numbers .entry)) (now (strings .entry)) (now (pool .entry)) (now (names .entry))) ⌝ }
 {
     if counts.len() < EIGHT {
         return Answer::NO_ROOM;
     }
     let o = options_of(options);
-    let a = lower::lower(
-        tree,
-        o,
-        sections,
-        instructions,
-        numbers,
-        strings,
-        pool,
-        names,
-    );
+    let a = lower::lower(tree, o, sections, instrs, numbers, strings, pool, names);
     answered(counts, a)
 }
 
@@ -58,28 +49,19 @@ pub extern "C" fn sezkibalo_finish(
     tree: &[u8],
     options: u64,
     sections: &mut [u64],
-    instructions: &mut [u64],
+    instrs: &mut [u64],
     numbers: &mut [i64],
     strings: &mut [u32],
     pool: &mut [u8],
     names: &mut [u16],
     counts: &mut [u64],
 ) -> u64
-    ensures { λ r. ⌜ (r, now (counts .exit), tables (now (sections .exit)) (now (instructions .exit)) (now (numbers .exit)) (now (strings .exit)) (now (pool .exit)) (now (names .exit))) ≡ buildCall Operations.finish (now (tree .entry)) options (now (counts .entry)) (tables (now (sections .entry)) (now (instructions .entry)) (now (numbers .entry)) (now (strings .entry)) (now (pool .entry)) (now (names .entry))) ⌝ }
+    ensures { λ r. ⌜ (r, now (counts .exit), tables (now (sections .exit)) (now (instrs .exit)) (now (numbers .exit)) (now (strings .exit)) (now (pool .exit)) (now (names .exit))) ≡ buildCall Operations.finish (now (tree .entry)) options (now (counts .entry)) (tables (now (sections .entry)) (now (instrs .entry)) (now (numbers .entry)) (now (strings .entry)) (now (pool .entry)) (now (names .entry))) ⌝ }
 {
     if counts.len() < EIGHT {
         return Answer::NO_ROOM;
     }
     let o = options_of(options);
-    let a = finish::finish(
-        tree,
-        o,
-        sections,
-        instructions,
-        numbers,
-        strings,
-        pool,
-        names,
-    );
+    let a = finish::finish(tree, o, sections, instrs, numbers, strings, pool, names);
     answered(counts, a)
 }
