@@ -12,12 +12,14 @@ use lib.Seq.{sets, getD-set-same, getD-set-other}
 use lib.Dec.{eqb, leb}
 use borrow.Author.Tests.{lt-leb, eqb-true, eqb-false}
 use Rattle.rules.specs.Constants.{mark}
-use Rattle.rules.specs.Instr.{Instruction, ins₁, ins₂, ins₃, aimed, canRuntimeErr}
+use Rattle.rules.specs.Instr.{Instruction, ins₁, ins₂, ins₃, aimed, canRuntimeErr, Kind, unused, val, table, kinds}
 use Rattle.rules.specs.Word.{insWord, wordIns, spanWord, Span}
+use Rattle.laws.specs.Table.{isPlace, opcode-bits, past-jumps}
 use Rattle.laws.specs.Words.{ins-back}
 use Rattle.rules.specs.CodegenData.{CodegenData, Lower, pure, emit, newNum, newStr, newVal, bindName}
 use Rattle.rules.specs.Lowered.{spans, texts}
 use Rattle.rules.specs.Operators.{errorJump, getVariable, guard, incdecOp}
+use Rattle.words.specs.Told.{Shape}
 use Rattle.words.specs.declared.instr.Section.{Section}
 use Rattle.codegen.specs.declared.state.Counters.{Counters}
 use Rattle.codegen.specs.Does.{wordTo, regWord, Lent, lent, Base, Stands, Went, Does, DoesNone, DoesCode, DoesNums, _▷_}
@@ -153,34 +155,34 @@ name-known {n} {c} {ms = ms} x h k = record { from = λ b g s. go b g s (getD (g
     go b g s none e = absurd (k (name-is n x b c _ g s h ∙ ap regWord e))
     go b g s (some v) e = rw (e, getVariable) (record { res = name-is n x b c _ g s h ∙ ap regWord e; stands = s })
 
--- fresh: a new one
-pub name-fresh : {n : ℕ} {c : Counters} {is : List ℕ} {ns : List ℤ} {ss ps ms : List ℕ} (x : ℕ) → x < n → getD ms x 0 ≡ mark → c .values < mark
-    → Does n (getVariable x) c (lent is ns ss ps ms) (lent is ns ss ps (set ms x (c .values))) (c .values) (plus-value c)
+-- fresh: a new one, which is kept for the name
+pub name-fresh : {n v : ℕ} {c c' : Counters} {is : List ℕ} {ns : List ℤ} {ss ps ms : List ℕ} (x : ℕ) → x < n → getD ms x 0 ≡ mark → c .values < mark → DoesNone newVal c v c'
+    → Does n (getVariable x) c (lent is ns ss ps ms) (lent is ns ss ps (set ms x v)) v c'
 unfolding getVariable regWord
-name-fresh {n} {c} {ms = ms} x h k l = record { from = λ b g s. go b g s (getD (g .names) x none) refl }
+name-fresh {n} {v} {c} {c'} {is} {ns} {ss} {ps} {ms} x h k l d = record { from = λ b g s. go b g s (d .does .from b g s) (getD (g .names) x none) refl }
   where
-    go : {is : List ℕ} {ns : List ℤ} {ss ps : List ℕ} (b : Base) (g : CodegenData) → Stands n b c (lent is ns ss ps ms) g → (o : Option ℕ) → getD (g .names) x none ≡ o
-        → Went n b (c .values) (plus-value c) (lent is ns ss ps (set ms x (c .values))) (getVariable x g)
-    go b g s (some v) e =
-        let z = s .below x v e in
-        let y : mark ≡ v = sym k ∙ (name-is n x b c _ g s h ∙ ap regWord e) in
+    go : (b : Base) (g : CodegenData) → Stands n b c (lent is ns ss ps ms) g → Went n b v c' (lent is ns ss ps ms) (newVal g) → (o : Option ℕ) → getD (g .names) x none ≡ o
+        → Went n b v c' (lent is ns ss ps (set ms x v)) (getVariable x g)
+    go b g s w (some u) e =
+        let z = s .below x u e in
+        let y : mark ≡ u = sym k ∙ (name-is n x b c _ g s h ∙ ap regWord e) in
         absurd (omega (arith, s .values))
-    go b g s none e =
+    go b g s w none e =
         rw (e, getVariable)
         (record {
-          res = s .values;
+          res = w .res;
           stands = record {
-            err = s .err;
-            at = s .at;
-            numbers = s .numbers;
-            strings = s .strings;
-            chars = s .chars;
-            values = omega (arith, s .values);
-            instr-words = s .instr-words;
-            number-words = s .number-words;
-            string-words = s .string-words;
-            pool-words = s .pool-words;
-            name-words = rw (s .name-words, s .values) (name-stored (g .names) (b .tables .names) x (g .values) (omega (arith, s .named)));
+            err = w .stands .err;
+            at = w .stands .at;
+            numbers = w .stands .numbers;
+            strings = w .stands .strings;
+            chars = w .stands .chars;
+            values = w .stands .values;
+            instr-words = w .stands .instr-words;
+            number-words = w .stands .number-words;
+            string-words = w .stands .string-words;
+            pool-words = w .stands .pool-words;
+            name-words = rw (s .name-words, w .res) (name-stored (g .names) (b .tables .names) x (g .values) (omega (arith, s .named)));
             named = rw length-set (s .named);
             below = below-stored (g .names) x (g .values) (s .below);
           };
@@ -188,15 +190,15 @@ name-fresh {n} {c} {ms = ms} x h k l = record { from = λ b g s. go b g s (getD 
 
 -- ---- an instruction that is no jump
 
-module _ (e o : ℕ) (h : 2 ≤ o) where
+module _ (e o : ℕ) {k : Kind × Kind × Kind} (h : kinds o ≡ some k) (r : isPlace (some k) ≡ false) where
   pub plain₁ : (a : ℕ) → insWord (ins₁ o a) ≡ wordTo e (ins₁ o a)
-  plain₁ a = rw (lt-leb o 1 h)
+  plain₁ a = rw (lt-leb o 1 (past-jumps o k h r))
 
   pub plain₂ : (a b : ℕ) → insWord (ins₂ o a b) ≡ wordTo e (ins₂ o a b)
-  plain₂ a b = rw (lt-leb o 1 h)
+  plain₂ a b = rw (lt-leb o 1 (past-jumps o k h r))
 
   pub plain₃ : (a b d : ℕ) → insWord (ins₃ o a b d) ≡ wordTo e (ins₃ o a b d)
-  plain₃ a b d = rw (lt-leb o 1 h)
+  plain₃ a b d = rw (lt-leb o 1 (past-jumps o k h r))
 
 -- ---- an error jump that is there or not
 
@@ -214,8 +216,8 @@ guard-most true = omega arith
 guard-most false = omega arith
 
 -- what a word says of its opcode
-pub err-is : (r : Bool) (w o a b : ℕ) → r ≡ canRuntimeErr (wordIns w .op) → w ≡ insWord (ins₂ o a b) → o < 64 → a < 65536 → b < 65536 → canRuntimeErr o ≡ r
-err-is r w o a b e q h x y = rw (e, q, ins-back (ins₂ o a b) (h, (x, (y, (omega arith, tt)))))
+pub err-is : (r : Bool) (w o a b : ℕ) {k : Kind × Kind × Kind} → r ≡ canRuntimeErr (wordIns w .op) → w ≡ insWord (ins₂ o a b) → kinds o ≡ some k → a < 65536 → b < 65536 → canRuntimeErr o ≡ r
+err-is r w o a b {k} e q h x y = rw (e, q, ins-back (ins₂ o a b) (opcode-bits o k h, (x, (y, (omega arith, tt)))))
 
 -- ---- an Incdec's
 
@@ -224,15 +226,10 @@ unfolding incdecOp
 incdec-word e true o w v p q = rw q at p
 incdec-word e false o w v p q = rw q at p
 
-pub incdec-small : (i : Bool) (o : ℕ) → o ≡ incdecOp i → o < 64
-unfolding incdecOp
-incdec-small true o e = omega arith
-incdec-small false o e = omega arith
-
--- the same of a table and a place that are known by equations
-pub stored : {n : ℕ} {c : Counters} {is : List ℕ} {ns : List ℤ} {ss ps ps' ms : List ℕ} (x : List ℕ) {h k w : ℕ} → k ≡ c .strings → h ≡ length x → w ≡ spanWord (record { start = c .chars; size = h }) → ps' ≡ sets ps (c .chars) x
-    → Does n (newStr x) c (lent is ns ss ps ms) (lent is ns (set ss k w) ps' ms) (c .strings) (plus-string h c)
-stored x e q w f = rw (e, f) (lettered x q w)
+pub incdec-shape : (i : Bool) (o : ℕ) → o ≡ incdecOp i → Shape o val unused unused
+unfolding incdecOp kinds table
+incdec-shape true o e = rw e
+incdec-shape false o e = rw e
 
 -- ---- what a thin step's contract comes to: counters, table and answer are known by equations
 
@@ -248,6 +245,14 @@ module _ {c z : Counters} where
 
   pub num-does : {ns ns' : List ℤ} {v : ℕ} (x : ℤ) → v ≡ c .numbers → ns' ≡ set ns (c .numbers) x → z ≡ plus-number c → DoesNums (newNum x) c ns ns' v z
   num-does x q f e = rw (q, f, e) (record { does = numbered x })
+
+  pub str-spent : {h : ℕ} → z ≡ plus-string h c → Spent c z 0 0 0 1 h
+  str-spent e = rw e (record { at = omega arith; numbers = omega arith; values = omega arith; strings = refl; chars = refl })
+
+  -- k is the register as an index, and the text is stored by others
+  pub str-does : {n : ℕ} {is : List ℕ} {ns : List ℤ} {ss ps ps' ms : List ℕ} (x : List ℕ) {h k v w : ℕ} → v ≡ c .strings → z ≡ plus-string h c → k ≡ v → h ≡ length x
+      → w ≡ spanWord (record { start = c .chars; size = h }) → ps' ≡ sets ps (c .chars) x → Does n (newStr x) c (lent is ns ss ps ms) (lent is ns (set ss k w) ps' ms) v z
+  str-does x p r e q w f = rw (e, p, r, f) (lettered x q w)
 
   pub val-spent : z ≡ plus-value c → Spent c z 0 0 1 0 0
   val-spent e = rw e (record { at = omega arith; numbers = omega arith; values = omega arith; strings = omega arith; chars = omega arith })

@@ -1,4 +1,4 @@
--- The counters as machine values: in a local's place and as what a borrow lends, each of which gives the other; and with one field changed.
+-- The counters as machine values: in a local's place and as what a borrow lends, each of which gives the other; and with the fields that a step changes.
 -- For the walks by hand of the functions that lend counters or are lent them. Assumes nothing.
 use mathlib.Core.Path.{refl}
 use mathlib.Core.List.{[], _∷_, List}
@@ -28,13 +28,16 @@ mach h = LL.val T.the-type T′.the-laws h
 abbrev pub Fit : Counters → Type 0
 Fit h = Is T.the-row h (mach h ∷ [])
 
--- ---- one field changed
+-- ---- the fields that a step changes
 
 abbrev pub at-instr : Counters → ℕ → Counters
 at-instr h n = record { at = n; numbers = h .numbers; strings = h .strings; chars = h .chars; values = h .values; err = h .err }
 
 abbrev pub at-number : Counters → ℕ → Counters
 at-number h n = record { at = h .at; numbers = n; strings = h .strings; chars = h .chars; values = h .values; err = h .err }
+
+abbrev pub at-string : Counters → ℕ → ℕ → Counters
+at-string h n m = record { at = h .at; numbers = h .numbers; strings = n; chars = m; values = h .values; err = h .err }
 
 abbrev pub at-value : Counters → ℕ → Counters
 at-value h n = record { at = h .at; numbers = h .numbers; strings = h .strings; chars = h .chars; values = n; err = h .err }
@@ -45,6 +48,9 @@ module _ (h : Counters) (was : Fit h) (n : ℕ) where
 
   pub fit-number : n < 2 ^ 16 → Fit (at-number h n)
   fit-number ok = let w = LL.owed T.the-type T′.the-laws h (mach h ∷ []) was in LL.owes T.the-type T′.the-laws (at-number h n) (w .0, ((refl, ok), w .1 .1))
+
+  pub fit-string : (m : ℕ) → n < 2 ^ 16 → m < 2 ^ 16 → Fit (at-string h n m)
+  fit-string m ok more = let w = LL.owed T.the-type T′.the-laws h (mach h ∷ []) was in LL.owes T.the-type T′.the-laws (at-string h n m) (w .0, (w .1 .0, ((refl, ok), ((refl, more), w .1 .1 .1 .1))))
 
   pub fit-value : n < 2 ^ 16 → Fit (at-value h n)
   fit-value ok = let w = LL.owed T.the-type T′.the-laws h (mach h ∷ []) was in LL.owes T.the-type T′.the-laws (at-value h n) (w .0, (w .1 .0, (w .1 .1 .0, (w .1 .1 .1 .0, ((refl, ok), w .1 .1 .1 .1 .1)))))

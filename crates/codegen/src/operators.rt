@@ -1,16 +1,17 @@
 // What is emitted for an operator on registers, as in yogi's codegen.rs.
 //
 // Each function is shown to do what the step of its name in `rules` (Operators) does, and to take so many instructions. A caller owes
-// room (`Room`) for them.
+// room (`Room`) for them, and an opcode of the shape that is emitted (`Shape`).
 ghost use mathlib.Core.Path.{_≡_};
 ghost use Prim.Native.Nat.{ℕ, _+_, _≤_, _<_};
 ghost use lib.ListN.{length, getD};
 ghost use Rattle.rules.specs.Tree as Tree;
 ghost use Rattle.rules.specs.Opcode as Op;
-ghost use Rattle.rules.specs.Instr.{canRuntimeErr, ins₂};
+ghost use Rattle.rules.specs.Instr.{canRuntimeErr, ins₂, unused, num, val};
 ghost use Rattle.rules.specs.Parse.{binops, unops};
 ghost use Rattle.rules.specs.CodegenData.{emit as emitS};
 ghost use Rattle.rules.specs.Operators.{copyValreg, makeTruthy, numberify as numberifyS, makeVal, makeLogicBinop, makeArithBinop, makeCmpBinop, makeNe, applyInPlace, applyBinop, makeNot, applyInNumber, applyUnop, incdecOp, codegenIncdec, guard};
+ghost use Rattle.words.specs.Told.{Shape};
 ghost use Rattle.codegen.specs.Does.{_▷_, DoesNone, DoesCode, DoesNums, DoesBoth, DoesNamed};
 ghost use Rattle.codegen.specs.Costs.{Spent, Room, guardCost, binopCost, unopCost};
 ghost use Rattle.codegen.specs.Told.{binopTold, unopTold};
@@ -183,7 +184,7 @@ pub fn make_logic_binop(
     l: ValReg,
     r: ValReg,
 ) -> GotVal
-    requires { ⌜ Room c 4 2 1 (length (now instrs)) (length (now numbers)) × (2 ≤ op) × (op < 64) ⌝ }
+    requires { ⌜ Room c 4 2 1 (length (now instrs)) (length (now numbers)) × Shape op num num unused ⌝ }
     ensures spent { λ a. ⌜ Spent c (a .next) 4 2 1 0 0 ⌝ }
     ensures does { λ a. ⌜ DoesBoth (makeLogicBinop op (l .0) (r .0)) c (now (instrs .entry)) (now (instrs .exit)) (now (numbers .entry)) (now (numbers .exit)) (a .reg .0) (a .next) ⌝ }
 {
@@ -195,7 +196,7 @@ pub fn make_logic_binop(
 
 // An operator of two numbers, and behind one that may fail an error jump.
 fn emit_guarded(instrs: &mut [u64], c: Counters, op: u64, l: NumReg, r: NumReg) -> Counters
-    requires { ⌜ (c .at + 2 ≤ length (now instrs)) × (2 ≤ op) × (op < 64) ⌝ }
+    requires { ⌜ (c .at + 2 ≤ length (now instrs)) × Shape op num num unused ⌝ }
     ensures spent { λ a. ⌜ Spent c a (1 + guardCost (canRuntimeErr op)) 0 0 0 0 ⌝ }
     ensures does { λ a. ⌜ DoesCode (emitS (ins₂ op (l .0) (r .0)) ▷ λ _. guard (canRuntimeErr op)) c (now (instrs .entry)) (now (instrs .exit)) 0 a ⌝ }
 {
@@ -216,7 +217,7 @@ pub fn make_arith_binop(
     l: ValReg,
     r: ValReg,
 ) -> GotVal
-    requires { ⌜ Room c 7 2 1 (length (now instrs)) (length (now numbers)) × (2 ≤ op) × (op < 64) ⌝ }
+    requires { ⌜ Room c 7 2 1 (length (now instrs)) (length (now numbers)) × Shape op num num unused ⌝ }
     ensures spent { λ a. ⌜ Spent c (a .next) (6 + guardCost (canRuntimeErr op)) 2 1 0 0 ⌝ }
     ensures does { λ a. ⌜ DoesBoth (makeArithBinop op (l .0) (r .0)) c (now (instrs .entry)) (now (instrs .exit)) (now (numbers .entry)) (now (numbers .exit)) (a .reg .0) (a .next) ⌝ }
 {
@@ -235,7 +236,7 @@ pub fn make_cmp_binop(
     l: ValReg,
     r: ValReg,
 ) -> GotVal
-    requires { ⌜ Room c 2 1 1 (length (now instrs)) (length (now numbers)) × (2 ≤ op) × (op < 64) ⌝ }
+    requires { ⌜ Room c 2 1 1 (length (now instrs)) (length (now numbers)) × Shape op val val num ⌝ }
     ensures spent { λ a. ⌜ Spent c (a .next) 2 1 1 0 0 ⌝ }
     ensures does { λ a. ⌜ DoesBoth (makeCmpBinop op (l .0) (r .0)) c (now (instrs .entry)) (now (instrs .exit)) (now (numbers .entry)) (now (numbers .exit)) (a .reg .0) (a .next) ⌝ }
 {
@@ -262,7 +263,7 @@ pub fn make_ne(instrs: &mut [u64], numbers: &mut [i64], c: Counters, l: ValReg, 
 
 // AddVal, SubVal: into the left operand's register.
 pub fn apply_in_place(instrs: &mut [u64], c: Counters, op: u64, l: ValReg, r: ValReg) -> GotVal
-    requires { ⌜ (c .at < length (now instrs)) × (2 ≤ op) × (op < 64) ⌝ }
+    requires { ⌜ (c .at < length (now instrs)) × Shape op val val unused ⌝ }
     ensures spent { λ a. ⌜ Spent c (a .next) 1 0 0 0 0 ⌝ }
     ensures does { λ a. ⌜ DoesCode (applyInPlace op (l .0) (r .0)) c (now (instrs .entry)) (now (instrs .exit)) (a .reg .0) (a .next) ⌝ }
 {
@@ -341,7 +342,7 @@ pub fn apply_in_number(
     op: u64,
     r: ValReg,
 ) -> GotVal
-    requires { ⌜ Room c 4 1 1 (length (now instrs)) (length (now numbers)) × (2 ≤ op) × (op < 64) ⌝ }
+    requires { ⌜ Room c 4 1 1 (length (now instrs)) (length (now numbers)) × Shape op num unused unused ⌝ }
     ensures spent { λ a. ⌜ Spent c (a .next) 4 1 1 0 0 ⌝ }
     ensures does { λ a. ⌜ DoesBoth (applyInNumber op (r .0)) c (now (instrs .entry)) (now (instrs .exit)) (now (numbers .entry)) (now (numbers .exit)) (a .reg .0) (a .next) ⌝ }
 {

@@ -1,17 +1,18 @@
-// The counters of lowering, and the steps that change one lent table: an instruction, a number, a value register, a name's register.
+// The counters of lowering, and the steps that change them or one lent table: an instruction, a number, string or value register, a name's
+// register.
 //
 // Each step is shown to do what the step of its name in `rules` (CodegenData, Operators) does. A caller owes room in the table, and
-// counts below 65,535. The counters are lent to the thin functions `emit_at`, `jmperr_at`, `take_num` and `take_val`, which change them
-// in their place and are proved by hand; `emit`, `add_jmperr`, `new_num` and `new_val` pass them by value, so that whoever calls these has
-// no proof by hand.
+// counts below 65,535. The counters are lent to the thin functions `emit_at`, `take_num`, `take_str` and `take_val`, which change them
+// in their place and are proved by hand; so are `emit`, `new_num`, `new_strreg` and `new_val`, which lend them and pass them on by value, so
+// that whoever calls these has no proof by hand.
 ghost use mathlib.Core.Path.{_≡_};
-ghost use Prim.Native.Nat.{ℕ, _+_, _<_};
+ghost use Prim.Native.Nat.{ℕ, _+_, _≤_, _<_};
 ghost use lib.ListN.{length, set};
 ghost use Rattle.rules.specs.Instr.{Instruction as Ins};
 ghost use Rattle.rules.specs.CodegenData.{emit as emitS, newNum, newVal};
 ghost use Rattle.rules.specs.Operators.{errorJump, getVariable};
 ghost use Rattle.codegen.specs.Does.{wordTo, DoesNone, DoesCode, DoesNums, DoesNames};
-ghost use Rattle.codegen.specs.Costs.{Spent, plus-instr, plus-number, plus-value};
+ghost use Rattle.codegen.specs.Costs.{Spent, plus-instr, plus-number, plus-string, plus-value};
 use words::MARK;
 use words::instr::Instruction;
 use words::instr::NumReg;
@@ -61,13 +62,6 @@ fn put_instr(instrs: &mut [u64], n: usize, w: Instruction) -> usize
     n + 1
 }
 
-fn put_jmperr(instrs: &mut [u64], n: usize, e: Section) -> usize
-    requires { ⌜ n < length (now instrs) ⌝ }
-    ensures { λ r. ⌜ (now (instrs .exit) ≡ set (now (instrs .entry)) n (wordTo (e .0) errorJump)) × (r ≡ n + 1) ⌝ }
-{
-    put_instr(instrs, n, Instruction::jump_if_error(e))
-}
-
 fn put_num(numbers: &mut [i64], n: u16, z: i64) -> u16
     requires { ⌜ (n < length (now numbers)) × (n < 65535) ⌝ }
     ensures { λ r. ⌜ (now (numbers .exit) ≡ set (now (numbers .entry)) n z) × (r ≡ n + 1) ⌝ }
@@ -87,17 +81,6 @@ pub fn emit_at(instrs: &mut [u64], c: &mut Counters, w: Instruction)
     c.at = k;
 }
 
-// An error jump, to the next line, in lent counters.
-pub fn jmperr_at(instrs: &mut [u64], c: &mut Counters)
-    requires { ⌜ now c .at < length (now instrs) ⌝ }
-    ensures { λ _. ⌜ (now (instrs .exit) ≡ set (now (instrs .entry)) (now (c .entry) .at) (wordTo (now (c .entry) .err .0) errorJump)) × (now (c .exit) ≡ plus-instr (now (c .entry))) ⌝ }
-{
-    let n = c.at;
-    let e = c.err;
-    let k = put_jmperr(instrs, n, e);
-    c.at = k;
-}
-
 // A number register that starts as z, in lent counters.
 pub fn take_num(numbers: &mut [i64], c: &mut Counters, z: i64) -> NumReg
     requires { ⌜ (now c .numbers < length (now numbers)) × (now c .numbers < 65535) ⌝ }
@@ -107,6 +90,18 @@ pub fn take_num(numbers: &mut [i64], c: &mut Counters, z: i64) -> NumReg
     let k = put_num(numbers, n, z);
     c.numbers = k;
     NumReg(n)
+}
+
+// A string register of n characters, in lent counters.
+pub fn take_str(c: &mut Counters, n: u16) -> StrReg
+    requires { ⌜ (now c .strings < 65535) × (now c .chars + n ≤ 65535) ⌝ }
+    ensures { λ r. ⌜ (r .0 ≡ now (c .entry) .strings) × (now (c .exit) ≡ plus-string n (now (c .entry))) ⌝ }
+{
+    let k = c.strings;
+    let m = c.chars;
+    c.strings = k + 1;
+    c.chars = m + n;
+    StrReg(k)
 }
 
 // A value register, in lent counters.
@@ -141,6 +136,16 @@ pub fn new_num(numbers: &mut [i64], c: Counters, z: i64) -> GotNum
     GotNum { reg, next: d }
 }
 
+// A string register of n characters.
+pub fn new_strreg(c: Counters, n: u16) -> GotStr
+    requires { ⌜ (c .strings < 65535) × (c .chars + n ≤ 65535) ⌝ }
+    ensures { λ r. ⌜ (r .reg .0 ≡ c .strings) × (r .next ≡ plus-string n c) ⌝ }
+{
+    let mut d = c;
+    let reg = take_str(&mut d, n);
+    GotStr { reg, next: d }
+}
+
 // A value register.
 pub fn new_val(c: Counters) -> GotVal
     requires { ⌜ c .values < 65535 ⌝ }
@@ -165,14 +170,9 @@ pub fn get_variable(names: &mut [u16], c: Counters, x: usize) -> GotVal
             next: c,
         };
     }
-    let n = c.values;
-    names[x] = n;
-    let mut d = c;
-    d.values = n + 1;
-    GotVal {
-        reg: ValReg(n),
-        next: d,
-    }
+    let n = new_val(c);
+    names[x] = n.reg.0;
+    n
 }
 
 // An error jump, to the next line.
@@ -181,7 +181,5 @@ pub fn add_jmperr(instrs: &mut [u64], c: Counters) -> Counters
     ensures spent { λ r. ⌜ Spent c r 1 0 0 0 0 ⌝ }
     ensures does { λ r. ⌜ DoesCode (emitS errorJump) c (now (instrs .entry)) (now (instrs .exit)) 0 r ⌝ }
 {
-    let mut d = c;
-    jmperr_at(instrs, &mut d);
-    d
+    emit(instrs, c, Instruction::jump_if_error(c.err))
 }

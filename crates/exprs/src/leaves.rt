@@ -30,6 +30,7 @@ use codegen::state::GotVal;
 use codegen::state::get_variable;
 use codegen::state::index;
 use codegen::state::new_num;
+use codegen::state::new_strreg;
 use nodes::kinds::IDENT;
 use nodes::kinds::INCDEC;
 use nodes::kinds::NUMBER;
@@ -40,7 +41,6 @@ use nodes::layout::OP;
 use nodes::layout::OPS;
 use nodes::layout::POS;
 use nodes::layout::POSITIONS;
-use words::instr::StrReg;
 use words::text::StringWord;
 
 // 64 bits in two's complement.
@@ -90,19 +90,14 @@ fn new_str(s: &[u8], strings: &mut [u32], pool: &mut [u8], c: Counters, n: u16, 
     ensures spent { λ a. ⌜ Spent c (a .next) 0 0 0 1 n ⌝ }
     ensures does { λ a. ⌜ DoesStrs (newStr (charsAt (now (s .entry)) n p)) c (now (strings .entry)) (now (strings .exit)) (now (pool .entry)) (now (pool .exit)) (a .reg .0) (a .next) ⌝ }
 {
-    let k = c.strings;
     let start = c.chars;
+    let t = new_strreg(c, n);
+    let k = t.reg.0;
     let w = StringWord::pack(start, n);
     let i = index(k);
     strings[i] = w.0;
     copy_text(s, pool, index(start), index(n), p);
-    let mut d = c;
-    d.strings = k + 1;
-    d.chars = start + n;
-    GotStr {
-        reg: StrReg(k),
-        next: d,
-    }
+    t
 }
 
 // A string of the file as a value.

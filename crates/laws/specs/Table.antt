@@ -1,5 +1,5 @@
 -- The opcode table: a test that is computed over all its rows holds of each row. Assumes nothing.
-use mathlib.Core.Path.{_≡_, refl}
+use mathlib.Core.Path.{_≡_, refl, sym, ap, _∙_}
 use mathlib.Core.Bool.{Bool, true, false}
 use mathlib.Core.List.{List, [], _∷_, map}
 use mathlib.Core.Option.{Option, none, some}
@@ -7,7 +7,7 @@ use Prim.Native.Nat.{ℕ, zero, suc, _≤_, _<_, zero-le}
 use native.Mathlib.Omega.{arith}
 use lib.Dec.{eqb, ltb, leb}
 use lib.ListN.{length, getElem?}
-use borrow.Author.Tests.{ne-eqb, ltb-true}
+use borrow.Author.Tests.{ne-eqb, ltb-true, leb-false}
 use Rattle.rules.specs.Opcode.{JumpIfError}
 use Rattle.rules.specs.Instr.{Instruction, Kind, unused, num, str, val, place, Row, table, kinds, register, reads, modifies, canRuntimeErr}
 use Rattle.rules.specs.Tables.{all}
@@ -69,6 +69,10 @@ opcode-lt o k e =
     let no : 53 ≤ o → ⊥ = λ h. let n : none ≡ getElem? table o = past-end table o h in let z : _≡_ {A = ℕ} 0 1 = cc (rw (← n) at e) in omega arith in
     omega arith
 
+-- so it has 6 bits
+pub opcode-bits : (o : ℕ) (k : Kind × Kind × Kind) → kinds o ≡ some k → o < 64
+opcode-bits o k e = omega (arith, opcode-lt o k e)
+
 -- the jumps are the opcodes whose first field is a section
 abbrev pub isPlace : Option (Kind × Kind × Kind) → Bool
 isPlace none = false
@@ -81,6 +85,10 @@ isPlace (some (place, b, c)) = true
 pub place-jumps : (o : ℕ) → o < 53 → isPlace (kinds o) ≡ leb o JumpIfError
 unfolding kinds table
 place-jumps o h = agree (λ o. leb o JumpIfError) (λ o. isPlace (kinds o)) [] 0 53 refl o tt zero-le h
+
+-- so no other opcode jumps
+pub past-jumps : (o : ℕ) (k : Kind × Kind × Kind) → kinds o ≡ some k → isPlace (some k) ≡ false → 2 ≤ o
+past-jumps o k e h = leb-false o JumpIfError (sym (place-jumps o (opcode-lt o k e)) ∙ (ap isPlace e ∙ h))
 
 -- is it the kind of a register?
 abbrev pub isReg : Kind → Bool

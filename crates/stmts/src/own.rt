@@ -6,11 +6,12 @@ ghost use mathlib.Core.Path.{_≡_};
 ghost use Prim.Native.Nat.{ℕ, _+_, _≤_, _<_};
 ghost use lib.ListN.{length, getD};
 ghost use Rattle.rules.specs.Tree as Tree;
-ghost use Rattle.rules.specs.Instr.{canRuntimeErr};
+ghost use Rattle.rules.specs.Instr.{canRuntimeErr, unused, num};
 ghost use Rattle.rules.specs.Parse.{assignops};
 ghost use Rattle.rules.specs.Operators.{makeArithBinop};
 ghost use Rattle.rules.specs.Annotate.{store as storeS, assignBy, codegenFromAssign, condition as conditionS, lineNumber};
 ghost use Rattle.nodes.specs.Holds.{HoldsE};
+ghost use Rattle.words.specs.Told.{Shape};
 ghost use Rattle.codegen.specs.Does.{lent, DoesBoth};
 ghost use Rattle.codegen.specs.Costs.{Spent, Room, guardCost};
 ghost use Rattle.stmts.specs.Told.{assignTold, assignCost};
@@ -61,7 +62,7 @@ fn store(
     v: ValReg,
     e: ValReg,
 ) -> Counters
-    requires { ⌜ Room c 8 2 1 (length (now instrs)) (length (now numbers)) × (2 ≤ op) × (op < 64) ⌝ }
+    requires { ⌜ Room c 8 2 1 (length (now instrs)) (length (now numbers)) × Shape op num num unused ⌝ }
     ensures spent { λ r. ⌜ Spent c r (7 + guardCost (canRuntimeErr op)) 2 1 0 0 ⌝ }
     ensures does { λ r. ⌜ DoesBoth (storeS (makeArithBinop op (v .0) (e .0)) (v .0)) c (now (instrs .entry)) (now (instrs .exit)) (now (numbers .entry)) (now (numbers .exit)) 0 r ⌝ }
 {

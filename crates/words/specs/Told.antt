@@ -1,10 +1,11 @@
 -- What the structs and enums of the code say in the words of `rules`.
+use mathlib.Core.Path.{_≡_}
 use mathlib.Core.Bool.{Bool}
 use mathlib.Core.List.{List, [], _∷_}
 use mathlib.Core.Option.{Option, none, some}
 use Prim.Native.Nat.{ℕ}
 use lib.ListN.{length, take}
-use Rattle.rules.specs.Instr.{Instruction as Ins, ins₁, ins₂, Kind, unused, num, str, val, place, Row}
+use Rattle.rules.specs.Instr.{Instruction as Ins, ins₁, ins₂, Kind, unused, num, str, val, place, Row, kinds}
 use Rattle.rules.specs.Opcode.{CopyNum, CopyStr}
 use Rattle.rules.specs.Word.{insWord, wordIns}
 use Rattle.rules.specs.Replace.{Rule, stays, goes, turns, number, result, blank, Regs, addNumber, addBlank}
@@ -53,6 +54,10 @@ flowModifies FromTo = some 1
 flowModifies Two = some 0
 flowModifies Compared = some 2
 
+-- an opcode whose three fields are of these kinds
+abbrev pub Shape : ℕ → Kind → Kind → Kind → Type 0
+Shape o a b c = kinds o ≡ some (a, b, c)
+
 -- an opcode's row of the table
 abbrev pub fieldsTold : Fields → Option Row
 fieldsTold (Are a b c f) = some (record { kinds = (kindTold a, kindTold b, kindTold c); reads = flowReads f; modifies = flowModifies f })
@@ -77,8 +82,12 @@ regKind str = str
 regKind val = val
 regKind place = num
 
-abbrev pub readsTold : Reads → List (Kind × ℕ)
-readsTold r = take (r .count) (regTold (r .first) ∷ regTold (r .second) ∷ [])
+-- how many registers, and which: what stands behind the count says nothing
+abbrev pub readsTold : Reads → ℕ × List (Kind × ℕ)
+readsTold r = (r .count, take (r .count) (regTold (r .first) ∷ regTold (r .second) ∷ []))
+
+abbrev pub counted : List (Kind × ℕ) → ℕ × List (Kind × ℕ)
+counted l = (length l, l)
 
 abbrev pub nothing : List (Kind × ℕ)
 nothing = []

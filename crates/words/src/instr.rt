@@ -1,7 +1,7 @@
 // Registers, section numbers and instructions, as in yogi's instr.rs; an instruction is one word.
 //
 // Each function is shown equal to the definition of its name in `rules`, through the maps of specs/Told. The functions on a word hold for
-// every u64. Only the packing of an opcode asks anything: that it has 6 bits.
+// every u64. Only the packing of an opcode asks anything: that its fields are of the kinds that are packed.
 ghost use mathlib.Core.Path.{_≡_};
 ghost use Prim.Native.Nat.{_<_};
 ghost use lib.ListN.{getElem?};
@@ -181,7 +181,7 @@ impl AnyReg {
 
 impl Reads {
     fn none() -> Reads
-        ensures { λ r. ⌜ Told.readsTold r ≡ Told.nothing ⌝ }
+        ensures { λ r. ⌜ Told.readsTold r ≡ Told.counted Told.nothing ⌝ }
     {
         let filler = AnyReg::Num(NumReg(0));
         Reads {
@@ -192,7 +192,7 @@ impl Reads {
     }
 
     fn one(reg: AnyReg) -> Reads
-        ensures { λ r. ⌜ Told.readsTold r ≡ Told.just (Told.regTold reg) ⌝ }
+        ensures { λ r. ⌜ Told.readsTold r ≡ Told.counted (Told.just (Told.regTold reg)) ⌝ }
     {
         Reads {
             count: 1,
@@ -202,7 +202,7 @@ impl Reads {
     }
 
     fn two(first: AnyReg, second: AnyReg) -> Reads
-        ensures { λ r. ⌜ Told.readsTold r ≡ Told.both (Told.regTold first) (Told.regTold second) ⌝ }
+        ensures { λ r. ⌜ Told.readsTold r ≡ Told.counted (Told.both (Told.regTold first) (Told.regTold second)) ⌝ }
     {
         Reads {
             count: 2,
@@ -372,21 +372,21 @@ impl Instruction {
     // An opcode on one register.
 
     pub fn of_num(op: u64, reg: NumReg) -> Instruction
-        requires { ⌜ op < 64 ⌝ }
+        requires { ⌜ Told.Shape op Instr.num Instr.unused Instr.unused ⌝ }
         ensures { λ r. ⌜ r .0 ≡ insWord (Instr.ins₁ op (reg .0)) ⌝ }
     {
         Self::word(op, reg.0, 0, 0)
     }
 
     pub fn of_str(op: u64, reg: StrReg) -> Instruction
-        requires { ⌜ op < 64 ⌝ }
+        requires { ⌜ Told.Shape op Instr.str Instr.unused Instr.unused ⌝ }
         ensures { λ r. ⌜ r .0 ≡ insWord (Instr.ins₁ op (reg .0)) ⌝ }
     {
         Self::word(op, reg.0, 0, 0)
     }
 
     pub fn of_val(op: u64, reg: ValReg) -> Instruction
-        requires { ⌜ op < 64 ⌝ }
+        requires { ⌜ Told.Shape op Instr.val Instr.unused Instr.unused ⌝ }
         ensures { λ r. ⌜ r .0 ≡ insWord (Instr.ins₁ op (reg .0)) ⌝ }
     {
         Self::word(op, reg.0, 0, 0)
@@ -395,28 +395,28 @@ impl Instruction {
     // An opcode on two registers: of one kind, or from a value to a number.
 
     pub fn num_num(op: u64, fst: NumReg, snd: NumReg) -> Instruction
-        requires { ⌜ op < 64 ⌝ }
+        requires { ⌜ Told.Shape op Instr.num Instr.num Instr.unused ⌝ }
         ensures { λ r. ⌜ r .0 ≡ insWord (Instr.ins₂ op (fst .0) (snd .0)) ⌝ }
     {
         Self::word(op, fst.0, snd.0, 0)
     }
 
     pub fn str_str(op: u64, fst: StrReg, snd: StrReg) -> Instruction
-        requires { ⌜ op < 64 ⌝ }
+        requires { ⌜ Told.Shape op Instr.str Instr.str Instr.unused ⌝ }
         ensures { λ r. ⌜ r .0 ≡ insWord (Instr.ins₂ op (fst .0) (snd .0)) ⌝ }
     {
         Self::word(op, fst.0, snd.0, 0)
     }
 
     pub fn val_val(op: u64, fst: ValReg, snd: ValReg) -> Instruction
-        requires { ⌜ op < 64 ⌝ }
+        requires { ⌜ Told.Shape op Instr.val Instr.val Instr.unused ⌝ }
         ensures { λ r. ⌜ r .0 ≡ insWord (Instr.ins₂ op (fst .0) (snd .0)) ⌝ }
     {
         Self::word(op, fst.0, snd.0, 0)
     }
 
     pub fn val_num(op: u64, from: ValReg, to: NumReg) -> Instruction
-        requires { ⌜ op < 64 ⌝ }
+        requires { ⌜ Told.Shape op Instr.val Instr.num Instr.unused ⌝ }
         ensures { λ r. ⌜ r .0 ≡ insWord (Instr.ins₂ op (from .0) (to .0)) ⌝ }
     {
         Self::word(op, from.0, to.0, 0)
@@ -424,7 +424,7 @@ impl Instruction {
 
     // A comparison of two values, into a number.
     pub fn val_val_num(op: u64, left: ValReg, right: ValReg, out: NumReg) -> Instruction
-        requires { ⌜ op < 64 ⌝ }
+        requires { ⌜ Told.Shape op Instr.val Instr.val Instr.num ⌝ }
         ensures { λ r. ⌜ r .0 ≡ insWord (Instr.ins₃ op (left .0) (right .0) (out .0)) ⌝ }
     {
         Self::word(op, left.0, right.0, out.0)
@@ -517,7 +517,7 @@ impl Instruction {
     }
 
     pub fn reads(self) -> Reads
-        ensures { λ r. ⌜ Told.readsTold r ≡ Instr.reads (wordIns (self .0)) ⌝ }
+        ensures { λ r. ⌜ Told.readsTold r ≡ Told.counted (Instr.reads (wordIns (self .0))) ⌝ }
     {
         let Fields::Are(a, b, _, flow) = Self::fields(self.op()) else {
             return Reads::none();

@@ -1,3 +1,5 @@
+use mathlib.Core.Path.{refl}
+use Rattle.rules.specs.Instr.{table, kinds}
 use Rattle.codegen.specs.Costs.{binopCost, guardCost}
 use Rattle.rules.specs.Operators.{applyBinop}
 use Rattle.rules.specs.Instr.{canRuntimeErr}
@@ -19,7 +21,8 @@ enum-told c = search needs
 
 -- src/operators.rt:295:23
 make-logic-binop-requires : tie.Need-make-logic-binop-requires
-make-logic-binop-requires c κs = search needs
+unfolding kinds table
+make-logic-binop-requires c κs = (search needs, refl)
 
 -- src/operators.rt:296:39
 enum-told-2 : tie.Need-enum-told-2
@@ -27,7 +30,8 @@ enum-told-2 c = search needs
 
 -- src/operators.rt:296:22
 make-logic-binop-requires-2 : tie.Need-make-logic-binop-requires-2
-make-logic-binop-requires-2 c κs = search needs
+unfolding kinds table
+make-logic-binop-requires-2 c κs = (search needs, refl)
 
 -- src/operators.rt:297:38
 enum-told-3 : tie.Need-enum-told-3
@@ -35,7 +39,8 @@ enum-told-3 c = search needs
 
 -- src/operators.rt:297:23
 apply-in-place-requires : tie.Need-apply-in-place-requires
-apply-in-place-requires c κs = search needs
+unfolding kinds table
+apply-in-place-requires c κs = (search needs, refl)
 
 -- src/operators.rt:298:38
 enum-told-4 : tie.Need-enum-told-4
@@ -43,7 +48,8 @@ enum-told-4 c = search needs
 
 -- src/operators.rt:298:23
 apply-in-place-requires-2 : tie.Need-apply-in-place-requires-2
-apply-in-place-requires-2 c κs = search needs
+unfolding kinds table
+apply-in-place-requires-2 c κs = (search needs, refl)
 
 -- src/operators.rt:299:40
 enum-told-5 : tie.Need-enum-told-5
@@ -51,7 +57,8 @@ enum-told-5 c = search needs
 
 -- src/operators.rt:299:23
 make-arith-binop-requires : tie.Need-make-arith-binop-requires
-make-arith-binop-requires c κs = search needs
+unfolding kinds table
+make-arith-binop-requires c κs = (search needs, refl)
 
 -- src/operators.rt:300:40
 enum-told-6 : tie.Need-enum-told-6
@@ -59,7 +66,8 @@ enum-told-6 c = search needs
 
 -- src/operators.rt:300:23
 make-arith-binop-requires-2 : tie.Need-make-arith-binop-requires-2
-make-arith-binop-requires-2 c κs = search needs
+unfolding kinds table
+make-arith-binop-requires-2 c κs = (search needs, refl)
 
 -- src/operators.rt:301:40
 enum-told-7 : tie.Need-enum-told-7
@@ -67,7 +75,8 @@ enum-told-7 c = search needs
 
 -- src/operators.rt:301:23
 make-arith-binop-requires-3 : tie.Need-make-arith-binop-requires-3
-make-arith-binop-requires-3 c κs = search needs
+unfolding kinds table
+make-arith-binop-requires-3 c κs = (search needs, refl)
 
 -- src/operators.rt:302:40
 enum-told-8 : tie.Need-enum-told-8
@@ -75,7 +84,8 @@ enum-told-8 c = search needs
 
 -- src/operators.rt:302:23
 make-arith-binop-requires-4 : tie.Need-make-arith-binop-requires-4
-make-arith-binop-requires-4 c κs = search needs
+unfolding kinds table
+make-arith-binop-requires-4 c κs = (search needs, refl)
 
 -- src/operators.rt:303:37
 enum-told-9 : tie.Need-enum-told-9
@@ -83,7 +93,8 @@ enum-told-9 c = search needs
 
 -- src/operators.rt:303:22
 make-cmp-binop-requires : tie.Need-make-cmp-binop-requires
-make-cmp-binop-requires c κs = search needs
+unfolding kinds table
+make-cmp-binop-requires c κs = (search needs, refl)
 
 -- src/operators.rt:304:30
 enum-told-10 : tie.Need-enum-told-10
@@ -99,7 +110,8 @@ enum-told-11 c = search needs
 
 -- src/operators.rt:305:22
 make-cmp-binop-requires-2 : tie.Need-make-cmp-binop-requires-2
-make-cmp-binop-requires-2 c κs = search needs
+unfolding kinds table
+make-cmp-binop-requires-2 c κs = (search needs, refl)
 
 -- src/operators.rt:306:37
 enum-told-12 : tie.Need-enum-told-12
@@ -107,7 +119,8 @@ enum-told-12 c = search needs
 
 -- src/operators.rt:306:22
 make-cmp-binop-requires-3 : tie.Need-make-cmp-binop-requires-3
-make-cmp-binop-requires-3 c κs = search needs
+unfolding kinds table
+make-cmp-binop-requires-3 c κs = (search needs, refl)
 
 -- src/operators.rt:307:37
 enum-told-13 : tie.Need-enum-told-13
@@ -115,7 +128,8 @@ enum-told-13 c = search needs
 
 -- src/operators.rt:307:22
 make-cmp-binop-requires-4 : tie.Need-make-cmp-binop-requires-4
-make-cmp-binop-requires-4 c κs = search needs
+unfolding kinds table
+make-cmp-binop-requires-4 c κs = (search needs, refl)
 
 -- src/operators.rt:308:37
 enum-told-14 : tie.Need-enum-told-14
@@ -123,7 +137,8 @@ enum-told-14 c = search needs
 
 -- src/operators.rt:308:22
 make-cmp-binop-requires-5 : tie.Need-make-cmp-binop-requires-5
-make-cmp-binop-requires-5 c κs = search needs
+unfolding kinds table
+make-cmp-binop-requires-5 c κs = (search needs, refl)
 
 -- src/operators.rt:282:1
 same-length : tie.Need-same-length

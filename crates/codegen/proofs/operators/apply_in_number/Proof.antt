@@ -42,7 +42,7 @@ returns c =
     let s = c .before .before .before .before .before .before .before .before .before .before .before .before .numberify .ensures .0 in
     let u = c .before .before .before .before .before .before .emit .ensures .0 in
     let v = c .before .before .make-val .ensures .0 in
-    (omega arith, record { does = same (as-in-number _ _) (then _ (c .before .before .before .before .before .before .before .before .before .before .before .before .numberify .ensures .1 .does) (then _ (c .before .before .before .before .before .before .emit .ensures .1 _ (c .before .before .before .before .before .before .before .of-num .ensures ∙ plain₁ _ _ (c .before .before .before .before .before .before .before .before .before .before .before .before .before .before .before .before .pre .1) _) .does) (c .before .before .make-val .ensures .1 .does))) })
+    (omega arith, record { does = same (as-in-number _ _) (then _ (c .before .before .before .before .before .before .before .before .before .before .before .before .numberify .ensures .1 .does) (then _ (c .before .before .before .before .before .before .emit .ensures .1 _ (c .before .before .before .before .before .before .before .of-num .ensures ∙ plain₁ _ _ (c .before .before .before .before .before .before .before .before .before .before .before .before .before .before .before .before .pre .1) refl _) .does) (c .before .before .make-val .ensures .1 .does))) })
 
 pub apply-in-number-spec : {M : Type 1} → statement M
 apply-in-number-spec =

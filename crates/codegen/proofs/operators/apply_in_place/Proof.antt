@@ -25,7 +25,7 @@ same-length c = search needs
 -- src/operators.rt:272:1
 returns : tie.Need-returns
 returns c =
-    (search needs, record { does = same (as-in-place _ _ _) (then _ (c .before .before .emit .ensures .1 _ (c .before .before .before .val-val .ensures ∙ plain₂ _ _ (c .before .before .before .before .before .before .pre .1) _ _) .does) done) })
+    (search needs, record { does = same (as-in-place _ _ _) (then _ (c .before .before .emit .ensures .1 _ (c .before .before .before .val-val .ensures ∙ plain₂ _ _ (c .before .before .before .before .before .before .pre .1) refl _ _) .does) done) })
 
 pub apply-in-place-spec : {M : Type 1} → statement M
 apply-in-place-spec = tie.close (tie.spec val-val-requires emit-requires same-length returns)

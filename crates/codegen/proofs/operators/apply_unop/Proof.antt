@@ -1,3 +1,5 @@
+use mathlib.Core.Path.{refl}
+use Rattle.rules.specs.Instr.{table, kinds}
 use Rattle.codegen.specs.Costs.{unopCost}
 use Rattle.rules.specs.Operators.{applyUnop}
 use native.Mathlib.Omega.{arith}
@@ -15,7 +17,8 @@ enum-told c = search needs
 
 -- src/operators.rt:362:22
 apply-in-number-requires : tie.Need-apply-in-number-requires
-apply-in-number-requires c κs = search needs
+unfolding kinds table
+apply-in-number-requires c κs = (search needs, refl)
 
 -- src/operators.rt:363:31
 enum-told-2 : tie.Need-enum-told-2
@@ -31,7 +34,8 @@ enum-told-3 c = search needs
 
 -- src/operators.rt:364:22
 apply-in-number-requires-2 : tie.Need-apply-in-number-requires-2
-apply-in-number-requires-2 c κs = search needs
+unfolding kinds table
+apply-in-number-requires-2 c κs = (search needs, refl)
 
 -- src/operators.rt:365:39
 enum-told-4 : tie.Need-enum-told-4
@@ -39,7 +43,8 @@ enum-told-4 c = search needs
 
 -- src/operators.rt:365:23
 apply-in-number-requires-3 : tie.Need-apply-in-number-requires-3
-apply-in-number-requires-3 c κs = search needs
+unfolding kinds table
+apply-in-number-requires-3 c κs = (search needs, refl)
 
 -- src/operators.rt:366:39
 enum-told-5 : tie.Need-enum-told-5
@@ -47,7 +52,8 @@ enum-told-5 c = search needs
 
 -- src/operators.rt:366:23
 apply-in-number-requires-4 : tie.Need-apply-in-number-requires-4
-apply-in-number-requires-4 c κs = search needs
+unfolding kinds table
+apply-in-number-requires-4 c κs = (search needs, refl)
 
 -- src/operators.rt:367:38
 enum-told-6 : tie.Need-enum-told-6
@@ -55,7 +61,8 @@ enum-told-6 c = search needs
 
 -- src/operators.rt:367:22
 apply-in-number-requires-5 : tie.Need-apply-in-number-requires-5
-apply-in-number-requires-5 c κs = search needs
+unfolding kinds table
+apply-in-number-requires-5 c κs = (search needs, refl)
 
 -- src/operators.rt:368:38
 enum-told-7 : tie.Need-enum-told-7
@@ -63,7 +70,8 @@ enum-told-7 c = search needs
 
 -- src/operators.rt:368:22
 apply-in-number-requires-6 : tie.Need-apply-in-number-requires-6
-apply-in-number-requires-6 c κs = search needs
+unfolding kinds table
+apply-in-number-requires-6 c κs = (search needs, refl)
 
 -- src/operators.rt:369:38
 enum-told-8 : tie.Need-enum-told-8
@@ -71,7 +79,8 @@ enum-told-8 c = search needs
 
 -- src/operators.rt:369:22
 apply-in-number-requires-7 : tie.Need-apply-in-number-requires-7
-apply-in-number-requires-7 c κs = search needs
+unfolding kinds table
+apply-in-number-requires-7 c κs = (search needs, refl)
 
 -- src/operators.rt:370:39
 enum-told-9 : tie.Need-enum-told-9
@@ -79,7 +88,8 @@ enum-told-9 c = search needs
 
 -- src/operators.rt:370:23
 apply-in-number-requires-8 : tie.Need-apply-in-number-requires-8
-apply-in-number-requires-8 c κs = search needs
+unfolding kinds table
+apply-in-number-requires-8 c κs = (search needs, refl)
 
 -- src/operators.rt:371:39
 enum-told-10 : tie.Need-enum-told-10
@@ -87,7 +97,8 @@ enum-told-10 c = search needs
 
 -- src/operators.rt:371:23
 apply-in-number-requires-9 : tie.Need-apply-in-number-requires-9
-apply-in-number-requires-9 c κs = search needs
+unfolding kinds table
+apply-in-number-requires-9 c κs = (search needs, refl)
 
 -- src/operators.rt:372:39
 enum-told-11 : tie.Need-enum-told-11
@@ -95,7 +106,8 @@ enum-told-11 c = search needs
 
 -- src/operators.rt:372:23
 apply-in-number-requires-10 : tie.Need-apply-in-number-requires-10
-apply-in-number-requires-10 c κs = search needs
+unfolding kinds table
+apply-in-number-requires-10 c κs = (search needs, refl)
 
 -- src/operators.rt:356:1
 same-length : tie.Need-same-length

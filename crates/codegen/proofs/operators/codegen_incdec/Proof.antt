@@ -1,4 +1,4 @@
-use Rattle.codegen.proofs.Laws.{incdec-small}
+use Rattle.codegen.proofs.Laws.{incdec-shape}
 use native.Mathlib.Omega.{arith}
 use mathlib.Core.Path.{_≡_, refl, sym, _∙_, ap}
 use Rattle.codegen.proofs.Forms.{as-incdec}
@@ -25,7 +25,7 @@ incdec-op-requires c κs = search needs
 -- src/operators.rt:403:9
 of-val-requires : tie.Need-of-val-requires
 of-val-requires c κs =
-    incdec-small _ _ (c .incdec-op .ensures)
+    incdec-shape _ _ (c .incdec-op .ensures)
 
 -- src/operators.rt:400:9
 emit-requires : tie.Need-emit-requires

@@ -1,3 +1,4 @@
+use Rattle.rules.specs.Instr.{table, kinds}
 use native.Mathlib.Omega.{arith}
 use mathlib.Core.Path.{_≡_, refl, sym, _∙_, ap}
 use Rattle.codegen.proofs.Forms.{as-copy}
@@ -17,7 +18,8 @@ new-val-requires c κs = search needs
 
 -- src/operators.rt:115:9
 val-val-requires : tie.Need-val-val-requires
-val-val-requires c κs = search needs
+unfolding kinds table
+val-val-requires c κs = refl
 
 -- src/operators.rt:112:9
 emit-requires : tie.Need-emit-requires

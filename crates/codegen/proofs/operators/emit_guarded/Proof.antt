@@ -37,10 +37,10 @@ returns : tie.Need-returns
 unfolding guardCost
 returns c =
     let q = c .before .before .before .before .before .before .before .before .before .before .before .before .good .1 .1 .1 in
-    let e = err-is _ _ _ _ _ (c .before .before .before .before .before .can-runtime-err .ensures) (c .before .before .before .before .before .before .before .before .before .before .num-num .ensures) (c .before .before .before .before .before .before .before .before .before .before .before .before .pre .2) (omega arith) (omega arith) ∙ c .before .before .before .before .if1 .taken in
+    let e = err-is _ _ _ _ _ (c .before .before .before .before .before .can-runtime-err .ensures) (c .before .before .before .before .before .before .before .before .before .before .num-num .ensures) (c .before .before .before .before .before .before .before .before .before .before .before .before .pre .1) (omega arith) (omega arith) ∙ c .before .before .before .before .if1 .taken in
     let u = c .before .before .before .before .before .before .before .before .emit .ensures .0 in
     let v = c .before .before .add-jmperr .ensures .0 in
-    (rw e (omega arith), record { does = then _ (c .before .before .before .before .before .before .before .before .emit .ensures .1 _ (c .before .before .before .before .before .before .before .before .before .before .num-num .ensures ∙ plain₂ _ _ (c .before .before .before .before .before .before .before .before .before .before .before .before .pre .1) _ _) .does) (guard-yes _ e (c .before .before .add-jmperr .ensures .1 .does)) })
+    (rw e (omega arith), record { does = then _ (c .before .before .before .before .before .before .before .before .emit .ensures .1 _ (c .before .before .before .before .before .before .before .before .before .before .num-num .ensures ∙ plain₂ _ _ (c .before .before .before .before .before .before .before .before .before .before .before .before .pre .1) refl _ _) .does) (guard-yes _ e (c .before .before .add-jmperr .ensures .1 .does)) })
 
 -- src/operators.rt:197:1
 same-length-2 : tie.Need-same-length-2
@@ -51,9 +51,9 @@ returns-2 : tie.Need-returns-2
 unfolding guardCost
 returns-2 c =
     let q = c .before .before .before .before .before .before .before .before .good .1 .1 .1 in
-    let e = err-is _ _ _ _ _ (c .before .can-runtime-err .ensures) (c .before .before .before .before .before .before .num-num .ensures) (c .before .before .before .before .before .before .before .before .pre .2) (omega arith) (omega arith) ∙ c .if1 .left in
+    let e = err-is _ _ _ _ _ (c .before .can-runtime-err .ensures) (c .before .before .before .before .before .before .num-num .ensures) (c .before .before .before .before .before .before .before .before .pre .1) (omega arith) (omega arith) ∙ c .if1 .left in
     let u = c .before .before .before .before .emit .ensures .0 in
-    (rw e (omega arith), record { does = then _ (c .before .before .before .before .emit .ensures .1 _ (c .before .before .before .before .before .before .num-num .ensures ∙ plain₂ _ _ (c .before .before .before .before .before .before .before .before .pre .1) _ _) .does) (guard-no _ e) })
+    (rw e (omega arith), record { does = then _ (c .before .before .before .before .emit .ensures .1 _ (c .before .before .before .before .before .before .num-num .ensures ∙ plain₂ _ _ (c .before .before .before .before .before .before .before .before .pre .1) refl _ _) .does) (guard-no _ e) })
 
 pub emit-guarded-spec : {M : Type 1} → statement M
 emit-guarded-spec =

@@ -39,7 +39,7 @@ same-length-2 c = search needs
 -- src/operators.rt:230:1
 returns : tie.Need-returns
 returns c =
-    (search needs, record { does = same (as-cmp _ _ _) (then _ (c .before .before .before .before .before .before .before .before .before .before .new-num .ensures .1 .does) (then _ (c .before .before .before .before .before .before .emit .ensures .1 _ (c .before .before .before .before .before .before .before .val-val-num .ensures ∙ plain₃ _ _ (c .before .before .before .before .before .before .before .before .before .before .before .before .before .pre .1) _ _ _) .does) (c .before .before .make-val .ensures .1 .does))) })
+    (search needs, record { does = same (as-cmp _ _ _) (then _ (c .before .before .before .before .before .before .before .before .before .before .new-num .ensures .1 .does) (then _ (c .before .before .before .before .before .before .emit .ensures .1 _ (c .before .before .before .before .before .before .before .val-val-num .ensures ∙ plain₃ _ _ (c .before .before .before .before .before .before .before .before .before .before .before .before .before .pre .1) refl _ _ _) .does) (c .before .before .make-val .ensures .1 .does))) })
 
 pub make-cmp-binop-spec : {M : Type 1} → statement M
 make-cmp-binop-spec =

@@ -58,7 +58,7 @@ returns c =
     let t = c .before .before .before .before .before .before .before .before .before .before .before .before .make-truthy2 .ensures .0 in
     let u = c .before .before .before .before .before .before .emit .ensures .0 in
     let v = c .before .before .make-val .ensures .0 in
-    (omega arith, record { does = same (as-logic _ _ _) (then _ (c .before .before .before .before .before .before .before .before .before .before .before .before .before .before .before .before .before .before .make-truthy .ensures .1 .does) (then _ (c .before .before .before .before .before .before .before .before .before .before .before .before .make-truthy2 .ensures .1 .does) (then _ (c .before .before .before .before .before .before .emit .ensures .1 _ (c .before .before .before .before .before .before .before .num-num .ensures ∙ plain₂ _ _ (c .before .before .before .before .before .before .before .before .before .before .before .before .before .before .before .before .before .before .before .before .before .before .pre .1) _ _) .does) (c .before .before .make-val .ensures .1 .does)))) })
+    (omega arith, record { does = same (as-logic _ _ _) (then _ (c .before .before .before .before .before .before .before .before .before .before .before .before .before .before .before .before .before .before .make-truthy .ensures .1 .does) (then _ (c .before .before .before .before .before .before .before .before .before .before .before .before .make-truthy2 .ensures .1 .does) (then _ (c .before .before .before .before .before .before .emit .ensures .1 _ (c .before .before .before .before .before .before .before .num-num .ensures ∙ plain₂ _ _ (c .before .before .before .before .before .before .before .before .before .before .before .before .before .before .before .before .before .before .before .before .before .before .pre .1) refl _ _) .does) (c .before .before .make-val .ensures .1 .does)))) })
 
 pub make-logic-binop-spec : {M : Type 1} → statement M
 make-logic-binop-spec =

@@ -1,3 +1,4 @@
+use Rattle.rules.specs.Instr.{table, kinds}
 use native.Mathlib.Omega.{arith}
 use mathlib.Core.Path.{_≡_, refl, sym, _∙_, ap}
 use Rattle.codegen.proofs.Forms.{as-ne}
@@ -19,7 +20,8 @@ new-num-requires c κs = search needs
 
 -- src/operators.rt:261:9
 val-val-num-requires : tie.Need-val-val-num-requires
-val-val-num-requires c κs = search needs
+unfolding kinds table
+val-val-num-requires c κs = refl
 
 -- src/operators.rt:258:9
 emit-requires : tie.Need-emit-requires
@@ -27,7 +29,8 @@ emit-requires c κs = search needs
 
 -- src/operators.rt:266:9
 of-num-requires : tie.Need-of-num-requires
-of-num-requires c κs = search needs
+unfolding kinds table
+of-num-requires c κs = refl
 
 -- src/operators.rt:263:9
 emit-requires-2 : tie.Need-emit-requires-2

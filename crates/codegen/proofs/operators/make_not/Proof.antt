@@ -1,3 +1,4 @@
+use Rattle.rules.specs.Instr.{table, kinds}
 use native.Mathlib.Omega.{arith}
 use mathlib.Core.Path.{_≡_, refl, sym, _∙_, ap}
 use Rattle.codegen.proofs.Forms.{as-not}
@@ -18,7 +19,8 @@ new-num-requires c κs = search needs
 
 -- src/operators.rt:339:9
 val-num-requires : tie.Need-val-num-requires
-val-num-requires c κs = search needs
+unfolding kinds table
+val-num-requires c κs = refl
 
 -- src/operators.rt:336:9
 emit-requires : tie.Need-emit-requires

@@ -3,6 +3,7 @@ use lib.ListN.{set}
 use mathlib.Core.Path.{refl, ap}
 use Prim.Native.Nat.{ℕ, _-_}
 use borrow.Author.Needs.{needs}
+use Rattle.rules.specs.Instr.{table, kinds}
 use Rattle.replace.proofs.instruction.add_blank.Statement.{statement}
 use Rattle.replace.proofs.instruction.add_blank.Tie as tie
 
@@ -10,7 +11,8 @@ cast-t10 : tie.Need-cast-t10
 cast-t10 c = search needs
 
 str-str-requires : tie.Need-str-str-requires
-str-str-requires c κs = search needs
+unfolding kinds table
+str-str-requires c κs = refl
 
 pack-requires : tie.Need-pack-requires
 pack-requires c κs = search needs

@@ -3,6 +3,7 @@ use lib.ListN.{set}
 use mathlib.Core.Path.{refl, ap}
 use Prim.Native.Nat.{ℕ, _-_}
 use borrow.Author.Needs.{needs}
+use Rattle.rules.specs.Instr.{table, kinds}
 use Rattle.replace.proofs.instruction.add_number.Statement.{statement}
 use Rattle.replace.proofs.instruction.add_number.Tie as tie
 
@@ -10,7 +11,8 @@ cast-t10 : tie.Need-cast-t10
 cast-t10 c = search needs
 
 num-num-requires : tie.Need-num-num-requires
-num-num-requires c κs = search needs
+unfolding kinds table
+num-num-requires c κs = refl
 
 mul-instructions : tie.Need-mul-instructions
 mul-instructions c = search needs

@@ -1,7 +1,7 @@
 use Rattle.stmts.specs.Told.{assignCost}
 use Rattle.codegen.specs.Costs.{guardCost}
 use Rattle.rules.specs.Annotate.{assignBy}
-use Rattle.rules.specs.Instr.{canRuntimeErr}
+use Rattle.rules.specs.Instr.{canRuntimeErr, table, kinds}
 use Rattle.codegen.proofs.Laws.{then, same}
 use native.Mathlib.Omega.{arith}
 use mathlib.Core.Path.{_≡_, refl, sym, _∙_, ap}
@@ -20,7 +20,8 @@ enum-told c = search needs
 
 -- src/own.rt:76:44
 val-val-requires : tie.Need-val-val-requires
-val-val-requires c κs = search needs
+unfolding kinds table
+val-val-requires c κs = refl
 
 -- src/own.rt:76:28
 emit-requires : tie.Need-emit-requires
@@ -32,7 +33,8 @@ enum-told-2 c = search needs
 
 -- src/own.rt:77:44
 val-val-requires-2 : tie.Need-val-val-requires-2
-val-val-requires-2 c κs = search needs
+unfolding kinds table
+val-val-requires-2 c κs = refl
 
 -- src/own.rt:77:28
 emit-requires-2 : tie.Need-emit-requires-2
@@ -44,7 +46,8 @@ enum-told-3 c = search needs
 
 -- src/own.rt:78:44
 val-val-requires-3 : tie.Need-val-val-requires-3
-val-val-requires-3 c κs = search needs
+unfolding kinds table
+val-val-requires-3 c κs = refl
 
 -- src/own.rt:78:28
 emit-requires-3 : tie.Need-emit-requires-3
@@ -56,7 +59,8 @@ enum-told-4 c = search needs
 
 -- src/own.rt:79:28
 store-requires : tie.Need-store-requires
-store-requires c κs = search needs
+unfolding kinds table
+store-requires c κs = (search needs, refl)
 
 -- src/own.rt:80:34
 enum-told-5 : tie.Need-enum-told-5
@@ -64,7 +68,8 @@ enum-told-5 c = search needs
 
 -- src/own.rt:80:28
 store-requires-2 : tie.Need-store-requires-2
-store-requires-2 c κs = search needs
+unfolding kinds table
+store-requires-2 c κs = (search needs, refl)
 
 -- src/own.rt:81:34
 enum-told-6 : tie.Need-enum-told-6
@@ -72,7 +77,8 @@ enum-told-6 c = search needs
 
 -- src/own.rt:81:28
 store-requires-3 : tie.Need-store-requires-3
-store-requires-3 c κs = search needs
+unfolding kinds table
+store-requires-3 c κs = (search needs, refl)
 
 -- src/own.rt:82:34
 enum-told-7 : tie.Need-enum-told-7
@@ -80,7 +86,8 @@ enum-told-7 c = search needs
 
 -- src/own.rt:82:28
 store-requires-4 : tie.Need-store-requires-4
-store-requires-4 c κs = search needs
+unfolding kinds table
+store-requires-4 c κs = (search needs, refl)
 
 -- src/own.rt:70:1
 same-length : tie.Need-same-length

@@ -1,6 +1,6 @@
 use Rattle.stmts.proofs.Forms.{as-store}
 use Rattle.codegen.proofs.Laws.{guard-most}
-use Rattle.rules.specs.Instr.{canRuntimeErr}
+use Rattle.rules.specs.Instr.{canRuntimeErr, table, kinds}
 use Rattle.codegen.proofs.Laws.{then, same}
 use native.Mathlib.Omega.{arith}
 use mathlib.Core.Path.{_≡_, refl, sym, _∙_, ap}
@@ -19,7 +19,8 @@ make-arith-binop-requires c κs = search needs
 
 -- src/own.rt:65:9
 val-val-requires : tie.Need-val-val-requires
-val-val-requires c κs = search needs
+unfolding kinds table
+val-val-requires c κs = refl
 
 -- src/own.rt:62:5
 emit-requires : tie.Need-emit-requires
