@@ -5,7 +5,7 @@
 use libc::STDIN_FILENO;
 use libc::STDOUT_FILENO;
 
-const ROOM: usize = 8193;
+const ROOM: usize = printed::MOST_BYTES + 1;
 
 fn space() -> [u8; printed::MOST_PRINTED] {
     [0u8; printed::MOST_PRINTED]

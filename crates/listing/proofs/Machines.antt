@@ -17,10 +17,10 @@ use Rattle.tables.specs.Runs.{total, held}
 use Rattle.tables.proofs.Sound.{no, Sound, sound}
 use Rattle.tables.proofs.Read.{all-cons, read-length, whole-total}
 use Rattle.tables.proofs.Change.{machineOf}
-use Rattle.listing.specs.Wrote.{Room, Wrote}
+use Rattle.listing.specs.Wrote.{Room, Wrote, Prints}
 use Rattle.listing.specs.Rows.{countsRow, Inside}
 use Rattle.listing.specs.Listed.{Lists, Listed}
-use Rattle.listing.proofs.Writes.{Are}
+use Rattle.listing.proofs.Writes.{Are, from-start}
 
 -- ---- a rule of all words, at one of them
 
@@ -85,8 +85,5 @@ module _ (t : Tables) (u : Counts) (h : fits t u ≡ true) where
   pub room-for : (o : List ℕ) → Lists t u o → Room o 0 (listing (machineOf t u))
   room-for o l = let x = l .room (machineOf t u) decode-is in omega arith
 
-  pub listed : (o o′ : List ℕ) (r : ℕ) → Lists t u o → length o′ ≡ length o → Wrote o o′ 0 r (listing (machineOf t u)) → Listed t u o′ r
-  listed o o′ r l e w =
-      let x = room-for o l in
-      let y = w .stop in
-      record { text = λ m d. w .text ∙ ap listing (one-machine m d); within = omega arith }
+  pub listed : (o o′ : List ℕ) (r : ℕ) → Lists t u o → Wrote o o′ 0 r (listing (machineOf t u)) → Listed t u o o′ r
+  listed o o′ r l w = record { prints = λ m d. subst (λ (x : Machine). Prints o o′ r (listing x)) (one-machine m d) (from-start w (room-for o l)) }

@@ -1,5 +1,5 @@
 // What finlist prints, as bytes in a lent slice: a machine's rows, or a refusal.
 pub mod listing;
-pub mod put;
+mod put;
 pub mod row;
-pub mod rows;
+mod rows;

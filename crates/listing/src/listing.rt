@@ -1,5 +1,5 @@
-// The listing of a machine in lent tables, shown to be `listing` of `rules` of the machine that the words hold. Asks that they hold one, and for
-// just that much room.
+// The listing of a machine in lent tables, shown to be `listing` of `rules` of the machine that the words hold, with every byte behind it as it
+// was. Asks that they hold one, and for just that much room.
 ghost use Rattle.tables.specs.Lent.{countsTold, tables};
 ghost use Rattle.listing.specs.Listed.{Lists, Listed};
 use crate::row::row_m;
@@ -21,7 +21,7 @@ pub fn listing(
     names: &[u16],
 ) -> usize
     requires { ⌜ Lists (tables (now sections) (now instructions) (now numbers) (now strings) (now pool) (now names)) (countsTold c) (now out) ⌝ }
-    ensures { λ r. ⌜ Listed (tables (now (sections .entry)) (now (instructions .entry)) (now (numbers .entry)) (now (strings .entry)) (now (pool .entry)) (now (names .entry))) (countsTold c) (now (out .exit)) r ⌝ }
+    ensures { λ r. ⌜ Listed (tables (now (sections .entry)) (now (instructions .entry)) (now (numbers .entry)) (now (strings .entry)) (now (pool .entry)) (now (names .entry))) (countsTold c) (now (out .entry)) (now (out .exit)) r ⌝ }
 {
     let characters = c.characters;
     let texts = &pool[..characters];

@@ -1,6 +1,6 @@
 // The parts of a row: bytes, numbers and texts, each written behind what stands in a lent slice already.
 //
-// Each function is shown to write what the definition of its part in `rules` says, and nothing before it. It asks for just that much room.
+// Each function is shown to write what the definition of its part in `rules` says, and no other byte. It asks for just that much room.
 ghost use mathlib.Core.Path.{_≡_};
 ghost use mathlib.Core.List.{[], _∷_};
 ghost use Prim.Native.Nat.{_≤_};
@@ -22,7 +22,7 @@ const ZERO: u8 = 48;
 // What ten is written from.
 const LETTERS: u8 = 87;
 
-pub fn put(out: &mut [u8], at: usize, b: u8) -> usize
+pub(crate) fn put(out: &mut [u8], at: usize, b: u8) -> usize
     requires { ⌜ Room (now out) at (b ∷ []) ⌝ }
     ensures { λ r. ⌜ Wrote (now (out .entry)) (now (out .exit)) at r (b ∷ []) ⌝ }
 {
@@ -70,7 +70,7 @@ fn put_digits(out: &mut [u8], at: usize, v: usize) -> usize
     put_bytes(out, at, &d[k..])
 }
 
-pub fn put_num(out: &mut [u8], at: usize, v: usize) -> usize
+pub(crate) fn put_num(out: &mut [u8], at: usize, v: usize) -> usize
     requires { ⌜ Room (now out) at (Listing.num v) ⌝ }
     ensures { λ r. ⌜ Wrote (now (out .entry)) (now (out .exit)) at r (Listing.num v) ⌝ }
 {
@@ -78,7 +78,7 @@ pub fn put_num(out: &mut [u8], at: usize, v: usize) -> usize
     put_digits(out, a, v)
 }
 
-pub fn put_nums(out: &mut [u8], at: usize, vs: &[usize]) -> usize
+pub(crate) fn put_nums(out: &mut [u8], at: usize, vs: &[usize]) -> usize
     requires { ⌜ Room (now out) at (nums (now vs)) ⌝ }
     ensures { λ r. ⌜ Wrote (now (out .entry)) (now (out .exit)) at r (nums (now (vs .entry))) ⌝ }
 {
@@ -103,7 +103,7 @@ fn magnitude(z: i64) -> usize
     z as usize
 }
 
-pub fn put_int(out: &mut [u8], at: usize, z: i64) -> usize
+pub(crate) fn put_int(out: &mut [u8], at: usize, z: i64) -> usize
     requires { ⌜ Room (now out) at (Listing.int z) ⌝ }
     ensures { λ r. ⌜ Wrote (now (out .entry)) (now (out .exit)) at r (Listing.int z) ⌝ }
 {
@@ -139,7 +139,7 @@ fn put_hex(out: &mut [u8], at: usize, s: &[u8]) -> usize
 }
 
 // A text, `-` if it is empty.
-pub fn put_text(out: &mut [u8], at: usize, s: &[u8]) -> usize
+pub(crate) fn put_text(out: &mut [u8], at: usize, s: &[u8]) -> usize
     requires { ⌜ Room (now out) at (Listing.hexText (now s)) ⌝ }
     ensures { λ r. ⌜ Wrote (now (out .entry)) (now (out .exit)) at r (Listing.hexText (now (s .entry))) ⌝ }
 {

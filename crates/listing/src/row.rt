@@ -1,4 +1,5 @@
-// Single rows, each written behind what stands in a lent slice already, and shown to be that of `rules`. Asks for just that much room.
+// Single rows, each written behind what stands in a lent slice already, and shown to be that of `rules`; no other byte is written. Asks for just
+// that much room.
 ghost use mathlib.Core.Path.{_≡_};
 ghost use mathlib.Core.List.{_++_};
 ghost use Rattle.rules.specs.Tables.{flag as flagS};
@@ -28,7 +29,7 @@ fn row(out: &mut [u8], at: usize, letter: u8, fields: &[usize]) -> usize
 }
 
 // M lines sections numbers strings values
-pub fn row_m(out: &mut [u8], at: usize, c: Counts) -> usize
+pub(crate) fn row_m(out: &mut [u8], at: usize, c: Counts) -> usize
     requires { ⌜ Room (now out) at (countsRow (countsTold c)) ⌝ }
     ensures { λ r. ⌜ Wrote (now (out .entry)) (now (out .exit)) at r (countsRow (countsTold c)) ⌝ }
 {
@@ -37,7 +38,7 @@ pub fn row_m(out: &mut [u8], at: usize, c: Counts) -> usize
 }
 
 // N register thousandths
-pub fn row_n(out: &mut [u8], at: usize, i: usize, z: i64) -> usize
+pub(crate) fn row_n(out: &mut [u8], at: usize, i: usize, z: i64) -> usize
     requires { ⌜ Room (now out) at (Listing.row 78 (Listing.num i ++ Listing.int z)) ⌝ }
     ensures { λ r. ⌜ Wrote (now (out .entry)) (now (out .exit)) at r (Listing.row 78 (Listing.num i ++ Listing.int z)) ⌝ }
 {
@@ -48,7 +49,7 @@ pub fn row_n(out: &mut [u8], at: usize, i: usize, z: i64) -> usize
 }
 
 // T register length hex
-pub fn row_t(out: &mut [u8], at: usize, i: usize, s: &[u8]) -> usize
+pub(crate) fn row_t(out: &mut [u8], at: usize, i: usize, s: &[u8]) -> usize
     requires { ⌜ Room (now out) at (textRow i (now s)) ⌝ }
     ensures { λ r. ⌜ Wrote (now (out .entry)) (now (out .exit)) at r (textRow i (now (s .entry))) ⌝ }
 {
@@ -60,7 +61,7 @@ pub fn row_t(out: &mut [u8], at: usize, i: usize, s: &[u8]) -> usize
 }
 
 // V name register
-pub fn row_v(out: &mut [u8], at: usize, i: usize, v: u16) -> usize
+pub(crate) fn row_v(out: &mut [u8], at: usize, i: usize, v: u16) -> usize
     requires { ⌜ Room (now out) at (Listing.row 86 (Listing.num i ++ Listing.num v)) ⌝ }
     ensures { λ r. ⌜ Wrote (now (out .entry)) (now (out .exit)) at r (Listing.row 86 (Listing.num i ++ Listing.num v)) ⌝ }
 {
@@ -69,7 +70,7 @@ pub fn row_v(out: &mut [u8], at: usize, i: usize, v: u16) -> usize
 }
 
 // I opcode and three fields
-pub fn row_i(out: &mut [u8], at: usize, w: Instruction) -> usize
+pub(crate) fn row_i(out: &mut [u8], at: usize, w: Instruction) -> usize
     requires { ⌜ Room (now out) at (instrRow (w .0)) ⌝ }
     ensures { λ r. ⌜ Wrote (now (out .entry)) (now (out .exit)) at r (instrRow (w .0)) ⌝ }
 {
@@ -88,7 +89,7 @@ fn flag(b: bool) -> usize
 }
 
 // S section linestart kind target count
-pub fn row_s(out: &mut [u8], at: usize, i: usize, w: SectionWord) -> usize
+pub(crate) fn row_s(out: &mut [u8], at: usize, i: usize, w: SectionWord) -> usize
     requires { ⌜ Room (now out) at (sectionRow i (w .0)) ⌝ }
     ensures { λ r. ⌜ Wrote (now (out .entry)) (now (out .exit)) at r (sectionRow i (w .0)) ⌝ }
 {

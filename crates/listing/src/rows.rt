@@ -1,5 +1,5 @@
-// The rows of whole tables, each written behind what stands in a lent slice already, and shown to be those of `rules`. Asks for just that
-// much room, and that the counted words are there.
+// The rows of whole tables, each written behind what stands in a lent slice already, and shown to be those of `rules`; no other byte is
+// written. Asks for just that much room, and that the counted words are there.
 ghost use mathlib.Core.Path.{_≡_};
 ghost use mathlib.Core.List.{map};
 ghost use Prim.Native.Nat.{_≤_};
@@ -20,7 +20,7 @@ use words::instr::Instruction;
 use words::section::SectionWord;
 use words::text::StringWord;
 
-pub fn rows_n(out: &mut [u8], at: usize, numbers: &[i64], n: usize) -> usize
+pub(crate) fn rows_n(out: &mut [u8], at: usize, numbers: &[i64], n: usize) -> usize
     requires { ⌜ (n ≤ length (now numbers)) × Room (now out) at (Listing.rowsN 0 (take n (now numbers))) ⌝ }
     ensures { λ r. ⌜ Wrote (now (out .entry)) (now (out .exit)) at r (Listing.rowsN 0 (take n (now (numbers .entry)))) ⌝ }
 {
@@ -34,7 +34,7 @@ pub fn rows_n(out: &mut [u8], at: usize, numbers: &[i64], n: usize) -> usize
     a
 }
 
-pub fn rows_t(out: &mut [u8], at: usize, strings: &[u32], pool: &[u8], n: usize) -> usize
+pub(crate) fn rows_t(out: &mut [u8], at: usize, strings: &[u32], pool: &[u8], n: usize) -> usize
     requires { ⌜ (n ≤ length (now strings)) × (Inside (now strings) (now pool) n × Room (now out) at (Listing.rowsT (now pool) 0 (map wordSpan (take n (now strings))))) ⌝ }
     ensures { λ r. ⌜ Wrote (now (out .entry)) (now (out .exit)) at r (Listing.rowsT (now (pool .entry)) 0 (map wordSpan (take n (now (strings .entry))))) ⌝ }
 {
@@ -50,7 +50,7 @@ pub fn rows_t(out: &mut [u8], at: usize, strings: &[u32], pool: &[u8], n: usize)
     a
 }
 
-pub fn rows_v(out: &mut [u8], at: usize, names: &[u16], n: usize) -> usize
+pub(crate) fn rows_v(out: &mut [u8], at: usize, names: &[u16], n: usize) -> usize
     requires { ⌜ (n ≤ length (now names)) × Room (now out) at (Listing.rowsV 0 (take n (now names))) ⌝ }
     ensures { λ r. ⌜ Wrote (now (out .entry)) (now (out .exit)) at r (Listing.rowsV 0 (take n (now (names .entry)))) ⌝ }
 {
@@ -82,7 +82,7 @@ fn rows_i(out: &mut [u8], at: usize, instructions: &[u64], from: usize, to: usiz
 }
 
 // Each section's row is followed by its instructions'.
-pub fn rows_s(
+pub(crate) fn rows_s(
     out: &mut [u8],
     at: usize,
     sections: &[u64],

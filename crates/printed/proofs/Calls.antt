@@ -4,7 +4,8 @@ use mathlib.Core.Bool.{Bool, true, false}
 use mathlib.Core.List.{List}
 use Prim.Native.Nat.{ℕ, _≤_}
 use native.Mathlib.Omega.{arith}
-use lib.ListN.{length}
+use lib.ListN.{length, take, drop, length-append}
+use lib.Seq.{length-take-le}
 use Rattle.rules.specs.Bits.{Res, refused, ok}
 use Rattle.rules.specs.Refusal as Refusal
 use Rattle.rules.specs.Tree.{Tree}
@@ -28,15 +29,12 @@ use Rattle.tables.specs.declared.answer.Answer.the-variants.{Done, Refused}
 use Rattle.tables.specs.declared.counts.Counts.{Counts as Lent}
 use Rattle.tables.proofs.Sound.{sound}
 use Rattle.tables.proofs.Change.{machineOf}
-use Rattle.listing.specs.Wrote.{Room, Wrote}
+use Rattle.listing.specs.Wrote.{Room, Wrote, Prints}
 use Rattle.listing.specs.Listed.{Lists, Listed}
+use Rattle.listing.proofs.Writes.{from-start}
 use Rattle.listing.proofs.Machines.{one-machine}
-use Rattle.printed.specs.Prints.{mostPrinted, printed, Roomy, Prints}
-use Rattle.printed.proofs.Lengths.{refusal-length, listing-length}
-
--- the options that finlist finishes with
-abbrev pub options : Options
-options = record { locals = false; globals = true }
+use Rattle.printed.specs.Printed.{mostCharacters, printed, Bounded}
+use Rattle.printed.proofs.Lengths.{mostPrinted, refusal-length, listing-length}
 
 -- ---- words that hold a machine keep the rules
 
@@ -50,8 +48,8 @@ fits-so t u m e = go (fits t u) refl
 
 -- ---- by the file
 
-module _ (s : List ℕ) (t t′ : Tables) where
-  pub refused-prints : (n : ℕ) → (refused n, t′) ≡ finish options s t → refusal n ≡ printed s t
+module _ (o : Options) (s : List ℕ) (t t′ : Tables) where
+  pub refused-prints : (n : ℕ) → (refused n, t′) ≡ finish o s t → refusal n ≡ printed s t
   unfolding finish build printed
   refused-prints n e = by-tree (parse s) refl
     where
@@ -63,20 +61,25 @@ module _ (s : List ℕ) (t t′ : Tables) where
       by-tree (refused k) p = rw (p, printed) (let r : refused n ≡ refused k = ap (λ (z : Res Counts × Tables). z .0) (rw (p, build) at e) in let j : n ≡ k = cc in ap refusal j)
       by-tree (ok x) p = by-room x p (holds t (estimate (sizeOf x))) refl
 
-  module _ (u : Counts) (e : (ok u, t′) ≡ finish options s t) where
-    pub its : Finishes options s t u
-    its = finishes options s t u (sym (ap (λ (z : Res Counts × Tables). z .0) e))
+  module _ (u : Counts) (e : (ok u, t′) ≡ finish o s t) where
+    pub its : Finishes o s t u
+    its = finishes o s t u (sym (ap (λ (z : Res Counts × Tables). z .0) e))
 
-    pub machine-is : decode t′ u ≡ ok (finished options (its .tree))
+    pub machine-is : decode t′ u ≡ ok (finished o (its .tree))
     machine-is = ap (λ (z : Res Counts × Tables). decode (z .1) u) e ∙ its .machine
 
-    pub done-prints : listing (finished options (its .tree)) ≡ printed s t
-    unfolding finish build printed defaults
-    done-prints = by-room (holds t (estimate (sizeOf (its .tree)))) refl
-      where
-        by-room : (b : Bool) → holds t (estimate (sizeOf (its .tree))) ≡ b → listing (finished options (its .tree)) ≡ printed s t
-        by-room true q = rw (its .parsed, printed, q)
-        by-room false q = absurd (refused≢ok Refusal.noRoom u (sym (ap (λ (z : Res Counts × Tables). z .0) (rw (its .parsed, build, q) at e))))
+-- finlist finishes with the default options
+module _ (s : List ℕ) (t t′ : Tables) (u : Counts) (e : (ok u, t′) ≡ finish defaults s t) where
+  abbrev tree-is : Finishes defaults s t u
+  tree-is = its defaults s t t′ u e
+
+  pub done-prints : listing (finished defaults (tree-is .tree)) ≡ printed s t
+  unfolding finish build printed
+  done-prints = by-room (holds t (estimate (sizeOf (tree-is .tree)))) refl
+    where
+      by-room : (b : Bool) → holds t (estimate (sizeOf (tree-is .tree))) ≡ b → listing (finished defaults (tree-is .tree)) ≡ printed s t
+      by-room true q = rw (tree-is .parsed, printed, q)
+      by-room false q = absurd (refused≢ok Refusal.noRoom u (sym (ap (λ (z : Res Counts × Tables). z .0) (rw (tree-is .parsed, build, q) at e))))
 
 -- ---- the code's answer
 
@@ -95,37 +98,48 @@ pub record SameLengths (t t′ : Tables) : Type 0 where
   pub strings : length (t′ .strings) ≡ length (t .strings)
   pub names : length (t′ .names) ≡ length (t .names)
 
-pub refusal-room : (o : List ℕ) (n : ℕ) → mostPrinted ≤ length o → Room o 0 (refusal n)
+pub prints-as : {o o′ : List ℕ} {r : ℕ} {bs cs : List ℕ} → Prints o o′ r bs → bs ≡ cs → Prints o o′ r cs
+prints-as {o} {o′} {r} p e = subst (Prints o o′ r) e p
+
+pub refusal-room : (o : List ℕ) (n : ℕ) → length o ≡ mostPrinted → Room o 0 (refusal n)
 refusal-room o n h = let l = refusal-length n in omega arith
 
-pub wrote-prints : {o o′ : List ℕ} {r : ℕ} {bs cs : List ℕ} → Wrote o o′ 0 r bs → Room o 0 bs → length o′ ≡ length o → bs ≡ cs → Prints o′ r cs
-wrote-prints w h l e = let k = w .stop in record { text = w .text ∙ e; within = omega arith }
+pub refusal-prints : {o o′ bs : List ℕ} {r : ℕ} (n : ℕ) → length o ≡ mostPrinted → Wrote o o′ 0 r (refusal n) → refusal n ≡ bs → Prints o o′ r bs
+refusal-prints {o} n h w e = prints-as (from-start w (refusal-room o n h)) e
 
 -- the texts of a tree's machine stand end to end
-module _ (x : Tree) where
+module _ (p : Options) (x : Tree) where
   abbrev its-texts : List (List ℕ)
   its-texts = annotate x .1 .strings
 
-  spans-are : finished options x .strings ≡ spans 0 its-texts
+  spans-are : finished p x .strings ≡ spans 0 its-texts
   unfolding finished combined cleaned assemble
-  spans-are = strings-stay options x
+  spans-are = strings-stay p x
 
-  few-characters : (s : List ℕ) → parse s ≡ ok x → length (texts its-texts) ≤ 37449
+  few-characters : (s : List ℕ) → parse s ≡ ok x → length (texts its-texts) ≤ mostCharacters
   unfolding countsOf lowered replaced assemble
-  few-characters s p = small options s x p .pool
+  few-characters s e = small p s x e .pool
 
-module _ (s : List ℕ) (t t′ : Tables) (u : Counts) (e : (ok u, t′) ≡ finish options s t) where
-  pub lists : (o : List ℕ) → Roomy t o → SameLengths t t′ → Lists t′ u o
-  lists o y l =
-      let x = its s t t′ u e .tree in
-      let m = machine-is s t t′ u e in
-      let h = fits-so t′ u _ m in
-      let c = sound t′ u h .counts in
-      let k = few-characters x s (its s t t′ u e .parsed) in
-      let are = ap (λ (z : Machine). z .strings) (one-machine t′ u h _ m) ∙ spans-are x in
-      let b = listing-length t′ u h (its-texts x) are (length-spans options x 0 (its-texts x)) (omega arith) (omega (arith, l .names, y .names, c .names)) in
-      let few : length (listing (machineOf t′ u)) ≤ length o = omega (arith, l .sections, l .instrs, l .numbers, l .strings, l .names, y .sections, y .instrs, y .numbers, y .strings, y .names, y .bytes, c .sections, c .instrs, c .numbers, c .strings, c .names) in
-      record { machine = h; room = λ n d. subst (λ (z : Machine). length (listing z) ≤ length o) (one-machine t′ u h n d) few }
+pub lists : (p : Options) (s : List ℕ) (t t′ : Tables) (u : Counts) → (ok u, t′) ≡ finish p s t → (o : List ℕ) → length o ≡ mostPrinted → Bounded t → SameLengths t t′ → Lists t′ u o
+lists p s t t′ u e o w y l =
+    let x = its p s t t′ u e .tree in
+    let m = machine-is p s t t′ u e in
+    let h = fits-so t′ u _ m in
+    let c = sound t′ u h .counts in
+    let k = few-characters p x s (its p s t t′ u e .parsed) in
+    let are = ap (λ (z : Machine). z .strings) (one-machine t′ u h _ m) ∙ spans-are p x in
+    let b = listing-length t′ u h (its-texts p x) are (length-spans p x 0 (its-texts p x)) (omega arith) (omega (arith, l .names, y .names, c .names)) in
+    let few : length (listing (machineOf t′ u)) ≤ length o = omega (arith, l .sections, l .instrs, l .numbers, l .strings, l .names, y .sections, y .instrs, y .numbers, y .strings, y .names, c .sections, c .instrs, c .numbers, c .strings, c .names) in
+    record { machine = h; room = λ n d. subst (λ (z : Machine). length (listing z) ≤ length o) (one-machine t′ u h n d) few }
 
-  pub listed-prints : {o : List ℕ} {r : ℕ} → Listed t′ u o r → Prints o r (printed s t)
-  listed-prints l = record { text = l .text _ (machine-is s t t′ u e) ∙ done-prints s t t′ u e; within = l .within }
+pub listed-prints : (s : List ℕ) (t t′ : Tables) (u : Counts) (e : (ok u, t′) ≡ finish defaults s t) {o o′ : List ℕ} {r : ℕ} → Listed t′ u o o′ r → Prints o o′ r (printed s t)
+listed-prints s t t′ u e l = prints-as (l .prints _ (machine-is defaults s t t′ u e)) (done-prints s t t′ u e)
+
+-- ---- what a caller takes of the bytes
+
+module _ {o o′ : List ℕ} {r : ℕ} {bs : List ℕ} where
+  pub within : Prints o o′ r bs → r ≤ length o′
+  within p = rw (p .text, length-append bs (drop r o)) (omega (arith, p .size))
+
+  pub all-printed : Prints o o′ r bs → r ≡ length (take r o′)
+  all-printed p = sym (length-take-le r o′ (within p))

@@ -10,7 +10,7 @@ use lib.ListN.{length, take}
 use lib.Seq.{length-take-le}
 use borrow.Author.Tests.{le-leb, lt-leb}
 use Rattle.rules.specs.Bits.{Res, refused, ok}
-use Rattle.rules.specs.Constants.{finlistBytes, finlistSections, finlistInstrs, finlistNumbers}
+use Rattle.rules.specs.Constants.{finlistBytes, finlistSections, finlistInstrs, finlistNumbers, mostNodes}
 use Rattle.rules.specs.Refusal as Refusal
 use Rattle.rules.specs.Tree.{Tree}
 use Rattle.rules.specs.Parse.{parse}
@@ -26,7 +26,7 @@ use Rattle.tree.specs.Files.{sized}
 use Rattle.tree.specs.declared.Sizes.{Sizes}
 use Rattle.tables.specs.Lent.{tables}
 use Rattle.tables.proofs.Sound.{no}
-use Rattle.printed.specs.Prints.{printed, Roomy, SizedRoom}
+use Rattle.printed.specs.Printed.{mostCharacters, mostNames, printed, Bounded, SizedRoom}
 
 -- ---- longer than finlist reads, or refused
 
@@ -58,21 +58,21 @@ its s z e = by (parse s) refl
     by (ok x) p = record { tree = x; parsed = p; sizes = let r : ok (sizeOf x) ≡ ok (sized z) = rw (p, size) at e in cc }
 
 module _ (s : List ℕ) (z : Sizes) (e : size s ≡ ok (sized z)) where
-  few-strings : z .strings ≤ 2048
+  few-strings : z .strings ≤ mostNodes
   unfolding estimate sizeOf
   few-strings =
       let i = its s z e in
       let a = ap (λ (x : Size). x .strings) (i .sizes) in
       omega (arith, estimated defaults (i .tree) .strings, small defaults s (i .tree) (i .parsed) .strings)
 
-  few-characters : z .characters ≤ 37449
+  few-characters : z .characters ≤ mostCharacters
   unfolding sizeOf
   few-characters =
       let i = its s z e in
       let a = ap (λ (x : Size). x .characters) (i .sizes) in
       omega (arith, limits s (i .tree) (i .parsed) .most-chars)
 
-  few-names : z .names ≤ 255
+  few-names : z .names ≤ mostNames
   unfolding sizeOf
   few-names =
       let i = its s z e in
@@ -90,7 +90,7 @@ all-of-it a b c false e f p q r = absurd (no p)
 all-of-it a b c true false f p q r = absurd (no q)
 all-of-it a b c true true false p q r = absurd (no r)
 
-module _ (o s : List ℕ) (z : Sizes) (ss is : List ℕ) (ns : List ℤ) (ts p xs : List ℕ) (h : SizedRoom o s z (tables ss is ns ts p xs)) where
+module _ (s : List ℕ) (z : Sizes) (ss is : List ℕ) (ns : List ℤ) (ts p xs : List ℕ) (h : SizedRoom s z (tables ss is ns ts p xs)) where
   pub strings-fit : z .strings ≤ length ts
   strings-fit = let a = few-strings s z (h .file .size-is) in let b = h .strings in omega arith
 
@@ -112,8 +112,8 @@ module _ (o s : List ℕ) (z : Sizes) (ss is : List ℕ) (ns : List ℤ) (ts p x
   abbrev lent : Tables
   lent = tables ss is ns (take (z .strings) ts) (take (z .characters) p) (take (z .names) xs)
 
-  pub lent-room : Roomy lent o
-  lent-room =
+  pub lent-bounded : Bounded lent
+  lent-bounded =
       let a = strings-are in
       let b = few-strings s z (h .file .size-is) in
       let c = names-are in
@@ -121,7 +121,7 @@ module _ (o s : List ℕ) (z : Sizes) (ss is : List ℕ) (ns : List ℤ) (ts p x
       let e = h .sections in
       let f = h .instrs in
       let g = h .numbers in
-      record { sections = omega arith; instrs = omega arith; numbers = omega arith; strings = omega arith; names = omega arith; bytes = h .file .bytes }
+      record { sections = omega arith; instrs = omega arith; numbers = omega arith; strings = omega arith; names = omega arith }
 
   same-test : (x : Tree) → sized z ≡ sizeOf x → holds lent (estimate (sizeOf x)) ≡ fitsFinlist (estimate (sizeOf x))
   unfolding holds fitsFinlist estimate

@@ -1,4 +1,5 @@
--- How long rows are at most: a number takes 21 bytes, one below 65,536 takes 6, a text two for each character. Assumes nothing.
+-- How long rows are at most: a number takes 21 bytes, one below 65,536 takes 6, a text two for each character; and how long a listing is that
+-- finlist prints. Assumes nothing.
 use mathlib.Core.Path.{_≡_, refl, sym, ap, _∙_, subst}
 use mathlib.Core.Bool.{Bool, true, false}
 use mathlib.Core.List.{List, [], _∷_, map}
@@ -9,7 +10,7 @@ use lib.IntN.{ℤ, pos, negsuc}
 use lib.ListN.{length, take, drop, length-append, length-map, length-take, take-append-drop}
 use borrow.Author.Tests.{lt-ltb}
 use lib.Seq.{length-take-le}
-use Rattle.rules.specs.Constants.{mark}
+use Rattle.rules.specs.Constants.{mark, mostNodes, finlistSections, finlistInstrs, finlistNumbers}
 use Rattle.rules.specs.Bits.{isOne}
 use Rattle.rules.specs.Word.{wordIns, wordRun}
 use Rattle.rules.specs.Machine.{SectionCode}
@@ -22,6 +23,7 @@ use Rattle.tables.specs.Runs.{countOf, sectionOf, held}
 use Rattle.tables.proofs.Sound.{sound}
 use Rattle.tables.proofs.Read.{read-nil, read-cons, count-is}
 use Rattle.tables.proofs.Change.{machineOf}
+use Rattle.printed.specs.Printed.{mostCharacters, mostNames}
 
 -- ---- fields
 
@@ -163,6 +165,10 @@ sections-length i (w ∷ ws) is l =
     rw (read-cons w ws is) (omega (arith, subst (λ (x : ℕ). length (drop x is) ≡ length (drop n is)) (sym c) refl))
 
 -- ---- the listing
+
+-- the longest that finlist prints: the row M, and those of numbers, texts, names, sections and instructions
+abbrev pub mostPrinted : ℕ
+mostPrinted = 107 + 30 * finlistNumbers + (16 * mostNodes + 2 * mostCharacters) + 29 * mostNames + 47 * finlistSections + 26 * finlistInstrs
 
 -- of a machine whose texts are ts, one behind the other
 module _ (t : Tables) (u : Counts) (h : fits t u ≡ true) (ts : List (List ℕ)) (are : machineOf t u .strings ≡ spans 0 ts) (many : length (spans 0 ts) ≡ length ts) (few : length (texts ts) ≤ 65535) (names-few : u .names ≤ 65535) where

@@ -4,7 +4,7 @@
 use libc::STDIN_FILENO;
 
 // One byte more than the longest file that finlist reads.
-const ROOM: usize = 8193;
+const ROOM: usize = printed::MOST_BYTES + 1;
 
 // In a recorded line `/` stands for a line feed.
 fn recorded_as(b: u8) -> u8 {

@@ -1,6 +1,5 @@
 -- `print` meets its contract. Assumes nothing.
-use lib.Seq.{length-take-le}
-use mathlib.Core.Path.{sym}
+use Rattle.printed.proofs.Calls.{within, all-printed}
 use borrow.Author.Needs.{needs}
 use Rattle.finlist.proofs.print.Statement.{statement}
 use Rattle.finlist.proofs.print.Tie as tie
@@ -8,17 +7,14 @@ use Rattle.finlist.proofs.print.Tie as tie
 space-requires : tie.Need-space-requires
 space-requires c κs = search needs
 
-slice-aggregate-finlist : tie.Need-slice-aggregate-finlist
-slice-aggregate-finlist c = search needs
-
 finlist-requires : tie.Need-finlist-requires
 finlist-requires c κs = search needs
 
 array-share-prefix-out : tie.Need-array-share-prefix-out
-array-share-prefix-out c = search needs
+array-share-prefix-out c = within (c .finlist .ensures)
 
 slice-aggregate-write-all : tie.Need-slice-aggregate-write-all
-slice-aggregate-write-all c = sym (length-take-le (c .before .before .finlist .result) (c .before .before .finlist .last .1 .0) (c .before .before .finlist .ensures .within))
+slice-aggregate-write-all c = all-printed (c .before .finlist .ensures)
 
 write-all-requires : tie.Need-write-all-requires
 write-all-requires c κs = search needs
@@ -31,7 +27,6 @@ print-spec =
     tie.close
     (tie.spec
     space-requires
-    slice-aggregate-finlist
     finlist-requires
     array-share-prefix-out
     slice-aggregate-write-all

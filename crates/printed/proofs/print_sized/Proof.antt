@@ -1,44 +1,45 @@
 -- `print_sized` meets its contract. Assumes nothing.
-use mathlib.Core.Path.{sym, _∙_}
-use Rattle.printed.proofs.Files.{strings-fit, pool-fits, names-fit, strings-are, pool-is, names-are, lent-room, lent-prints}
+use mathlib.Core.Path.{sym}
+use Rattle.printed.proofs.Calls.{prints-as}
+use Rattle.printed.proofs.Files.{strings-fit, pool-fits, names-fit, strings-are, pool-is, names-are, lent-bounded, lent-prints}
 use borrow.Author.Needs.{needs}
 use Rattle.printed.proofs.print_sized.Statement.{statement}
 use Rattle.printed.proofs.print_sized.Tie as tie
 
 slice-relend-prefix-print-in : tie.Need-slice-relend-prefix-print-in
 slice-relend-prefix-print-in c =
-    let c11 = c .before .before .before .before .before .before .before .before .before .before .before in
-    strings-fit (c11 .args .out .now) (c11 .args .input .now) (c11 .args .z) (c11 .args .sections .now) (c11 .args .instructions .now) (c11 .args .numbers .now) (c11 .args .strings .now) (c11 .args .pool .now) (c11 .args .names .now) (c11 .pre)
+    let c10 = c .before .before .before .before .before .before .before .before .before .before in
+    strings-fit (c10 .args .input .now) (c10 .args .z) (c10 .args .sections .now) (c10 .args .instructions .now) (c10 .args .numbers .now) (c10 .args .strings .now) (c10 .args .pool .now) (c10 .args .names .now) (c10 .pre)
 
 slice-aggregate-print-in : tie.Need-slice-aggregate-print-in
 slice-aggregate-print-in c =
-    let c12 = c .before .before .before .before .before .before .before .before .before .before .before .before in
-    sym (strings-are (c12 .args .out .now) (c12 .args .input .now) (c12 .args .z) (c12 .args .sections .now) (c12 .args .instructions .now) (c12 .args .numbers .now) (c12 .args .strings .now) (c12 .args .pool .now) (c12 .args .names .now) (c12 .pre))
+    let c11 = c .before .before .before .before .before .before .before .before .before .before .before in
+    sym (strings-are (c11 .args .input .now) (c11 .args .z) (c11 .args .sections .now) (c11 .args .instructions .now) (c11 .args .numbers .now) (c11 .args .strings .now) (c11 .args .pool .now) (c11 .args .names .now) (c11 .pre))
 
 slice-relend-prefix-print-in-2 : tie.Need-slice-relend-prefix-print-in-2
 slice-relend-prefix-print-in-2 c =
-    let c12 = c .before .before .before .before .before .before .before .before .before .before .before .before in
-    pool-fits (c12 .args .out .now) (c12 .args .input .now) (c12 .args .z) (c12 .args .sections .now) (c12 .args .instructions .now) (c12 .args .numbers .now) (c12 .args .strings .now) (c12 .args .pool .now) (c12 .args .names .now) (c12 .pre)
+    let c11 = c .before .before .before .before .before .before .before .before .before .before .before in
+    pool-fits (c11 .args .input .now) (c11 .args .z) (c11 .args .sections .now) (c11 .args .instructions .now) (c11 .args .numbers .now) (c11 .args .strings .now) (c11 .args .pool .now) (c11 .args .names .now) (c11 .pre)
 
 slice-aggregate-print-in-2 : tie.Need-slice-aggregate-print-in-2
 slice-aggregate-print-in-2 c =
-    let c13 = c .before .before .before .before .before .before .before .before .before .before .before .before .before in
-    sym (pool-is (c13 .args .out .now) (c13 .args .input .now) (c13 .args .z) (c13 .args .sections .now) (c13 .args .instructions .now) (c13 .args .numbers .now) (c13 .args .strings .now) (c13 .args .pool .now) (c13 .args .names .now) (c13 .pre))
+    let c12 = c .before .before .before .before .before .before .before .before .before .before .before .before in
+    sym (pool-is (c12 .args .input .now) (c12 .args .z) (c12 .args .sections .now) (c12 .args .instructions .now) (c12 .args .numbers .now) (c12 .args .strings .now) (c12 .args .pool .now) (c12 .args .names .now) (c12 .pre))
 
 slice-relend-prefix-print-in-3 : tie.Need-slice-relend-prefix-print-in-3
 slice-relend-prefix-print-in-3 c =
-    let c13 = c .before .before .before .before .before .before .before .before .before .before .before .before .before in
-    names-fit (c13 .args .out .now) (c13 .args .input .now) (c13 .args .z) (c13 .args .sections .now) (c13 .args .instructions .now) (c13 .args .numbers .now) (c13 .args .strings .now) (c13 .args .pool .now) (c13 .args .names .now) (c13 .pre)
+    let c12 = c .before .before .before .before .before .before .before .before .before .before .before .before in
+    names-fit (c12 .args .input .now) (c12 .args .z) (c12 .args .sections .now) (c12 .args .instructions .now) (c12 .args .numbers .now) (c12 .args .strings .now) (c12 .args .pool .now) (c12 .args .names .now) (c12 .pre)
 
 slice-aggregate-print-in-3 : tie.Need-slice-aggregate-print-in-3
 slice-aggregate-print-in-3 c =
-    let c14 = c .before .before .before .before .before .before .before .before .before .before .before .before .before .before in
-    sym (names-are (c14 .args .out .now) (c14 .args .input .now) (c14 .args .z) (c14 .args .sections .now) (c14 .args .instructions .now) (c14 .args .numbers .now) (c14 .args .strings .now) (c14 .args .pool .now) (c14 .args .names .now) (c14 .pre))
+    let c13 = c .before .before .before .before .before .before .before .before .before .before .before .before .before in
+    sym (names-are (c13 .args .input .now) (c13 .args .z) (c13 .args .sections .now) (c13 .args .instructions .now) (c13 .args .numbers .now) (c13 .args .strings .now) (c13 .args .pool .now) (c13 .args .names .now) (c13 .pre))
 
 print-in-requires : tie.Need-print-in-requires
 print-in-requires c κs =
-    let c14 = c .before .before .before .before .before .before .before .before .before .before .before .before .before .before in
-    lent-room (c14 .args .out .now) (c14 .args .input .now) (c14 .args .z) (c14 .args .sections .now) (c14 .args .instructions .now) (c14 .args .numbers .now) (c14 .args .strings .now) (c14 .args .pool .now) (c14 .args .names .now) (c14 .pre)
+    let c13 = c .before .before .before .before .before .before .before .before .before .before .before .before .before in
+    lent-bounded (c13 .args .input .now) (c13 .args .z) (c13 .args .sections .now) (c13 .args .instructions .now) (c13 .args .numbers .now) (c13 .args .strings .now) (c13 .args .pool .now) (c13 .args .names .now) (c13 .pre)
 
 same-length : tie.Need-same-length
 same-length c = search needs
@@ -58,14 +59,11 @@ same-length-5 c = search needs
 same-length-6 : tie.Need-same-length-6
 same-length-6 c = search needs
 
-same-length-7 : tie.Need-same-length-7
-same-length-7 c = search needs
-
 returns : tie.Need-returns
 returns c =
-    let c28 = c .before .before .before .before .before .before .before .before .before .before .before .before .before .before .before .before .before .before .before .before .before .before .before .before .before .before .before .before in
-    let p = c .before .before .before .before .before .before .before .before .before .before .before .before .before .print-in .ensures in
-    record { text = p .text ∙ lent-prints (c28 .args .out .now) (c28 .args .input .now) (c28 .args .z) (c28 .args .sections .now) (c28 .args .instructions .now) (c28 .args .numbers .now) (c28 .args .strings .now) (c28 .args .pool .now) (c28 .args .names .now) (c28 .pre); within = p .within }
+    let c25 = c .before .before .before .before .before .before .before .before .before .before .before .before .before .before .before .before .before .before .before .before .before .before .before .before .before in
+    let p = c .before .before .before .before .before .before .before .before .before .before .before .print-in .ensures in
+    prints-as p (lent-prints (c25 .args .input .now) (c25 .args .z) (c25 .args .sections .now) (c25 .args .instructions .now) (c25 .args .numbers .now) (c25 .args .strings .now) (c25 .args .pool .now) (c25 .args .names .now) (c25 .pre))
 
 pub print-sized-spec : {M : Type 1} → statement M
 print-sized-spec =
@@ -84,5 +82,4 @@ print-sized-spec =
     same-length-4
     same-length-5
     same-length-6
-    same-length-7
     returns)

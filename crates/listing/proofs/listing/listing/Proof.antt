@@ -27,7 +27,7 @@ rows-n-requires c κs =
     let h = c12 .pre .machine in
     let o = room-for _ _ h (c12 .args .out .now) (c12 .pre) in
     let s = sound _ _ h in
-    (s .counts .numbers, room (write (begin (c12 .args .out .now) 0 (listing-parts _ _ h)) (c .before .before .before .row-m .ensures) (c .before .before .before .row-m .kept .0)) o)
+    (s .counts .numbers, room (write (begin (c12 .args .out .now) 0 (listing-parts _ _ h)) (c .before .before .before .row-m .ensures)) o)
 
 rows-t-requires : tie.Need-rows-t-requires
 rows-t-requires c κs =
@@ -36,7 +36,7 @@ rows-t-requires c κs =
     let h = c16 .pre .machine in
     let o = room-for _ _ h (c16 .args .out .now) (c16 .pre) in
     let s = sound _ _ h in
-    (s .counts .strings, (inside _ _ h, room (write (write (begin (c16 .args .out .now) 0 (listing-parts _ _ h)) (c7 .row-m .ensures) (c7 .row-m .kept .0)) (c .before .before .before .rows-n .ensures) (c .before .before .before .rows-n .kept .0)) o))
+    (s .counts .strings, (inside _ _ h, room (write (write (begin (c16 .args .out .now) 0 (listing-parts _ _ h)) (c7 .row-m .ensures)) (c .before .before .before .rows-n .ensures)) o))
 
 rows-v-requires : tie.Need-rows-v-requires
 rows-v-requires c κs =
@@ -46,7 +46,7 @@ rows-v-requires c κs =
     let h = c20 .pre .machine in
     let o = room-for _ _ h (c20 .args .out .now) (c20 .pre) in
     let s = sound _ _ h in
-    (s .counts .names, room (write (write (write (begin (c20 .args .out .now) 0 (listing-parts _ _ h)) (c11 .row-m .ensures) (c11 .row-m .kept .0)) (c7 .rows-n .ensures) (c7 .rows-n .kept .0)) (c .before .before .before .rows-t .ensures) (c .before .before .before .rows-t .kept .0)) o)
+    (s .counts .names, room (write (write (write (begin (c20 .args .out .now) 0 (listing-parts _ _ h)) (c11 .row-m .ensures)) (c7 .rows-n .ensures)) (c .before .before .before .rows-t .ensures)) o)
 
 rows-s-requires : tie.Need-rows-s-requires
 rows-s-requires c κs =
@@ -57,7 +57,7 @@ rows-s-requires c κs =
     let h = c24 .pre .machine in
     let o = room-for _ _ h (c24 .args .out .now) (c24 .pre) in
     let s = sound _ _ h in
-    (s .counts .sections, (s .counts .instrs, (covered _ _ h, room (write (write (write (write (begin (c24 .args .out .now) 0 (listing-parts _ _ h)) (c15 .row-m .ensures) (c15 .row-m .kept .0)) (c11 .rows-n .ensures) (c11 .rows-n .kept .0)) (c7 .rows-t .ensures) (c7 .rows-t .kept .0)) (c .before .before .before .rows-v .ensures) (c .before .before .before .rows-v .kept .0)) o)))
+    (s .counts .sections, (s .counts .instrs, (covered _ _ h, room (write (write (write (write (begin (c24 .args .out .now) 0 (listing-parts _ _ h)) (c15 .row-m .ensures)) (c11 .rows-n .ensures)) (c7 .rows-t .ensures)) (c .before .before .before .rows-v .ensures)) o)))
 
 same-length : tie.Need-same-length
 same-length c = search needs
@@ -70,8 +70,8 @@ returns c =
     let c18 = c14 .before .before .before .before in
     let c27 = c18 .before .before .before .before .before .before .before .before .before in
     let h = c27 .pre .machine in
-    let l = write (write (write (write (write (begin (c27 .args .out .now) 0 (listing-parts _ _ h)) (c18 .row-m .ensures) (c18 .row-m .kept .0)) (c14 .rows-n .ensures) (c14 .rows-n .kept .0)) (c10 .rows-t .ensures) (c10 .rows-t .kept .0)) (c6 .rows-v .ensures) (c6 .rows-v .kept .0)) (c .before .before .rows-s .ensures) (c .before .before .rows-s .kept .0) in
-    listed _ _ h (c27 .args .out .now) _ _ (c27 .pre) (l .same) (done l)
+    let l = write (write (write (write (write (begin (c27 .args .out .now) 0 (listing-parts _ _ h)) (c18 .row-m .ensures)) (c14 .rows-n .ensures)) (c10 .rows-t .ensures)) (c6 .rows-v .ensures)) (c .before .before .rows-s .ensures) in
+    listed _ _ h (c27 .args .out .now) _ _ (c27 .pre) (done l)
 
 pub listing-spec : {M : Type 1} → statement M
 listing-spec =

@@ -14,7 +14,7 @@ same-length : tie.Need-same-length
 same-length c = search needs
 
 returns : tie.Need-returns
-returns c = one _ _ _ (c .pre)
+returns c = one _ _ _
 
 pub put-spec : {M : Type 1} → statement M
 put-spec = tie.close (tie.spec slice-write-out add-result same-length returns)

@@ -1,6 +1,6 @@
 -- `put_hex` meets its contract. Assumes nothing.
 use Rattle.listing.proofs.Parts.{hex-more, hex-none}
-use Rattle.listing.proofs.Writes.{Left, begin, part, write, room, done, only}
+use Rattle.listing.proofs.Writes.{Left, begin, part, write, room, done, only, same}
 use mathlib.Core.List.{[], _∷_}
 use Rattle.rules.specs.Listing as Listing
 use mathlib.Core.Path.{refl}
@@ -41,7 +41,7 @@ put-requires-2 c κs =
     let c12 = c4 .before .before .before .before .before .before .before .before in
     let l = c .before .before .before .before .before .before .before .before .before .loop in
     let s = c12 .args .s .now in
-    room (write (part (hex-more s (l .i) (c .before .before .before .before .before .before .before .before .loop-test .taken) (c .before .before .before .before .before .hex-digit .ensures) (c .hex-digit2 .ensures)) (l .inv .1)) (c4 .put .ensures) (c4 .put .kept .0)) (c12 .pre)
+    room (write (part (hex-more s (l .i) (c .before .before .before .before .before .before .before .before .loop-test .taken) (c .before .before .before .before .before .hex-digit .ensures) (c .hex-digit2 .ensures)) (l .inv .1)) (c4 .put .ensures)) (c12 .pre)
 
 add-i : tie.Need-add-i Inv-loop μ-loop
 add-i c = search needs
@@ -57,10 +57,10 @@ loop-again c =
     let l = c .before .before .before .before .before .before .before .before .before .before .before .before .loop in
     let s = c .before .before .before .before .before .before .before .before .before .before .before .before .before .before .before .args .s .now in
     let h = c .before .before .before .before .before .before .before .before .before .before .before .loop-test .taken in
-    (search needs, write (write (part (hex-more s (l .i) h (c .before .before .before .before .before .before .before .before .hex-digit .ensures) (c .before .before .before .hex-digit2 .ensures)) (l .inv .1)) (c7 .put .ensures) (c7 .put .kept .0)) (c .before .before .put2 .ensures) (c .before .before .put2 .kept .0))
+    (search needs, write (write (part (hex-more s (l .i) h (c .before .before .before .before .before .before .before .before .hex-digit .ensures) (c .before .before .before .hex-digit2 .ensures)) (l .inv .1)) (c7 .put .ensures)) (c .before .before .put2 .ensures))
 
 same-length : tie.Need-same-length Inv-loop μ-loop
-same-length c = c .before .loop .inv .1 .same
+same-length c = same (c .before .loop .inv .1)
 
 returns : tie.Need-returns Inv-loop μ-loop
 returns c =

@@ -16,13 +16,13 @@ put-requires-2 : tie.Need-put-requires-2
 put-requires-2 c κs =
     let c5 = c .before .before .before .before .before in
     let c8 = c5 .before .before .before in
-    room (write (begin (c8 .args .out .now) (c8 .args .at) (neg-parts (c8 .args .z) (c8 .fits .z) (c .before .if1 .taken) _ (c .before .before .magnitude .ensures))) (c5 .put .ensures) (c5 .put .kept .0)) (c8 .pre)
+    room (write (begin (c8 .args .out .now) (c8 .args .at) (neg-parts (c8 .args .z) (c8 .fits .z) (c .before .if1 .taken) _ (c .before .before .magnitude .ensures))) (c5 .put .ensures)) (c8 .pre)
 
 put-digits-requires : tie.Need-put-digits-requires
 put-digits-requires c κs =
     let c9 = c .before .before .before .before .before .before .before .before .before in
     let c12 = c9 .before .before .before in
-    room (write (write (begin (c12 .args .out .now) (c12 .args .at) (neg-parts (c12 .args .z) (c12 .fits .z) (c .before .before .before .before .before .if1 .taken) _ (c .before .before .before .before .before .before .magnitude .ensures))) (c9 .put .ensures) (c9 .put .kept .0)) (c .before .before .before .put2 .ensures) (c .before .before .before .put2 .kept .0)) (c12 .pre)
+    room (write (write (begin (c12 .args .out .now) (c12 .args .at) (neg-parts (c12 .args .z) (c12 .fits .z) (c .before .before .before .before .before .if1 .taken) _ (c .before .before .before .before .before .before .magnitude .ensures))) (c9 .put .ensures)) (c .before .before .before .put2 .ensures)) (c12 .pre)
 
 same-length : tie.Need-same-length
 same-length c = search needs
@@ -32,13 +32,13 @@ returns c =
     let c6 = c .before .before .before .before .before .before in
     let c12 = c6 .before .before .before .before .before .before in
     let c15 = c12 .before .before .before in
-    done (write (write (write (begin (c15 .args .out .now) (c15 .args .at) (neg-parts (c15 .args .z) (c15 .fits .z) (c .before .before .before .before .before .before .before .before .if1 .taken) _ (c .before .before .before .before .before .before .before .before .before .magnitude .ensures))) (c12 .put .ensures) (c12 .put .kept .0)) (c6 .put2 .ensures) (c6 .put2 .kept .0)) (c .before .before .put-digits .ensures) (c .before .before .put-digits .kept .0))
+    done (write (write (write (begin (c15 .args .out .now) (c15 .args .at) (neg-parts (c15 .args .z) (c15 .fits .z) (c .before .before .before .before .before .before .before .before .if1 .taken) _ (c .before .before .before .before .before .before .before .before .before .magnitude .ensures))) (c12 .put .ensures)) (c6 .put2 .ensures)) (c .before .before .put-digits .ensures))
 
 put-digits-requires-2 : tie.Need-put-digits-requires-2
 put-digits-requires-2 c κs =
     let c5 = c .before .before .before .before .before in
     let c8 = c5 .before .before .before in
-    room (write (begin (c8 .args .out .now) (c8 .args .at) (pos-parts (c8 .args .z) (c8 .fits .z) (c .before .if1 .left) _ (c .before .before .magnitude .ensures))) (c5 .put .ensures) (c5 .put .kept .0)) (c8 .pre)
+    room (write (begin (c8 .args .out .now) (c8 .args .at) (pos-parts (c8 .args .z) (c8 .fits .z) (c .before .if1 .left) _ (c .before .before .magnitude .ensures))) (c5 .put .ensures)) (c8 .pre)
 
 same-length-2 : tie.Need-same-length-2
 same-length-2 c = search needs
@@ -47,7 +47,7 @@ returns-2 : tie.Need-returns-2
 returns-2 c =
     let c8 = c .before .before .before .before .before .before .before .before in
     let c11 = c8 .before .before .before in
-    done (write (write (begin (c11 .args .out .now) (c11 .args .at) (pos-parts (c11 .args .z) (c11 .fits .z) (c .before .before .before .before .if1 .left) _ (c .before .before .before .before .before .magnitude .ensures))) (c8 .put .ensures) (c8 .put .kept .0)) (c .before .before .put-digits2 .ensures) (c .before .before .put-digits2 .kept .0))
+    done (write (write (begin (c11 .args .out .now) (c11 .args .at) (pos-parts (c11 .args .z) (c11 .fits .z) (c .before .before .before .before .if1 .left) _ (c .before .before .before .before .before .magnitude .ensures))) (c8 .put .ensures)) (c .before .before .put-digits2 .ensures))
 
 pub put-int-spec : {M : Type 1} → statement M
 put-int-spec =

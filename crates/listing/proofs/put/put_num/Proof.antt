@@ -10,7 +10,7 @@ put-requires : tie.Need-put-requires
 put-requires c κs = room (begin (c .before .before .args .out .now) (c .before .before .args .at) (num-is (c .before .before .args .v))) (c .before .before .pre)
 
 put-digits-requires : tie.Need-put-digits-requires
-put-digits-requires c κs = room (write (begin (c .before .before .before .before .before .before .args .out .now) (c .before .before .before .before .before .before .args .at) (num-is (c .before .before .before .before .before .before .args .v))) (c .before .before .before .put .ensures) (c .before .before .before .put .kept .0)) (c .before .before .before .before .before .before .pre)
+put-digits-requires c κs = room (write (begin (c .before .before .before .before .before .before .args .out .now) (c .before .before .before .before .before .before .args .at) (num-is (c .before .before .before .before .before .before .args .v))) (c .before .before .before .put .ensures)) (c .before .before .before .before .before .before .pre)
 
 same-length : tie.Need-same-length
 same-length c = search needs
@@ -19,7 +19,7 @@ returns : tie.Need-returns
 returns c =
     let c6 = c .before .before .before .before .before .before in
     let c9 = c6 .before .before .before in
-    done (write (write (begin (c9 .args .out .now) (c9 .args .at) (num-is (c9 .args .v))) (c6 .put .ensures) (c6 .put .kept .0)) (c .before .before .put-digits .ensures) (c .before .before .put-digits .kept .0))
+    done (write (write (begin (c9 .args .out .now) (c9 .args .at) (num-is (c9 .args .v))) (c6 .put .ensures)) (c .before .before .put-digits .ensures))
 
 pub put-num-spec : {M : Type 1} → statement M
 put-num-spec = tie.close (tie.spec put-requires put-digits-requires same-length returns)

@@ -1,6 +1,6 @@
 -- `put_nums` meets its contract. Assumes nothing.
 use Rattle.listing.proofs.Parts.{nums-more, nums-none}
-use Rattle.listing.proofs.Writes.{Left, begin, only, part, write, room, done}
+use Rattle.listing.proofs.Writes.{Left, begin, only, part, write, room, done, same}
 use Rattle.listing.specs.Rows.{nums}
 use mathlib.Core.List.{[], _∷_}
 use native.Mathlib.Omega.{arith}
@@ -40,10 +40,10 @@ loop-again : tie.Need-loop-again Inv-loop μ-loop
 loop-again c =
     let l = c .before .before .before .before .before .before .loop in
     let h = c .before .before .before .before .before .loop-test .taken in
-    (search needs, write (part (nums-more (c .before .before .before .before .before .before .before .before .before .args .vs .now) (l .i) h) (l .inv .1)) (c .before .before .put-num .ensures) (c .before .before .put-num .kept .0))
+    (search needs, write (part (nums-more (c .before .before .before .before .before .before .before .before .before .args .vs .now) (l .i) h) (l .inv .1)) (c .before .before .put-num .ensures))
 
 same-length : tie.Need-same-length Inv-loop μ-loop
-same-length c = c .before .loop .inv .1 .same
+same-length c = same (c .before .loop .inv .1)
 
 returns : tie.Need-returns Inv-loop μ-loop
 returns c =

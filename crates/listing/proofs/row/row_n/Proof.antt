@@ -11,20 +11,20 @@ put-requires c κs = room (begin (c .before .before .args .out .now) (c .before 
 put-num-requires : tie.Need-put-num-requires
 put-num-requires c κs =
     let c6 = c .before .before .before .before .before .before in
-    room (write (begin (c6 .args .out .now) (c6 .args .at) (number-parts (c6 .args .i) (c6 .args .z) (c6 .fits .z))) (c .before .before .before .put .ensures) (c .before .before .before .put .kept .0)) (c6 .pre)
+    room (write (begin (c6 .args .out .now) (c6 .args .at) (number-parts (c6 .args .i) (c6 .args .z) (c6 .fits .z))) (c .before .before .before .put .ensures)) (c6 .pre)
 
 put-int-requires : tie.Need-put-int-requires
 put-int-requires c κs =
     let c7 = c .before .before .before .before .before .before .before in
     let c10 = c7 .before .before .before in
-    room (write (write (begin (c10 .args .out .now) (c10 .args .at) (number-parts (c10 .args .i) (c10 .args .z) (c10 .fits .z))) (c7 .put .ensures) (c7 .put .kept .0)) (c .before .before .before .put-num .ensures) (c .before .before .before .put-num .kept .0)) (c10 .pre)
+    room (write (write (begin (c10 .args .out .now) (c10 .args .at) (number-parts (c10 .args .i) (c10 .args .z) (c10 .fits .z))) (c7 .put .ensures)) (c .before .before .before .put-num .ensures)) (c10 .pre)
 
 put-requires-2 : tie.Need-put-requires-2
 put-requires-2 c κs =
     let c7 = c .before .before .before .before .before .before .before in
     let c11 = c7 .before .before .before .before in
     let c14 = c11 .before .before .before in
-    room (write (write (write (begin (c14 .args .out .now) (c14 .args .at) (number-parts (c14 .args .i) (c14 .args .z) (c14 .fits .z))) (c11 .put .ensures) (c11 .put .kept .0)) (c7 .put-num .ensures) (c7 .put-num .kept .0)) (c .before .before .before .put-int .ensures) (c .before .before .before .put-int .kept .0)) (c14 .pre)
+    room (write (write (write (begin (c14 .args .out .now) (c14 .args .at) (number-parts (c14 .args .i) (c14 .args .z) (c14 .fits .z))) (c11 .put .ensures)) (c7 .put-num .ensures)) (c .before .before .before .put-int .ensures)) (c14 .pre)
 
 same-length : tie.Need-same-length
 same-length c = search needs
@@ -35,7 +35,7 @@ returns c =
     let c10 = c6 .before .before .before .before in
     let c14 = c10 .before .before .before .before in
     let c17 = c14 .before .before .before in
-    done (write (write (write (write (begin (c17 .args .out .now) (c17 .args .at) (number-parts (c17 .args .i) (c17 .args .z) (c17 .fits .z))) (c14 .put .ensures) (c14 .put .kept .0)) (c10 .put-num .ensures) (c10 .put-num .kept .0)) (c6 .put-int .ensures) (c6 .put-int .kept .0)) (c .before .before .put2 .ensures) (c .before .before .put2 .kept .0))
+    done (write (write (write (write (begin (c17 .args .out .now) (c17 .args .at) (number-parts (c17 .args .i) (c17 .args .z) (c17 .fits .z))) (c14 .put .ensures)) (c10 .put-num .ensures)) (c6 .put-int .ensures)) (c .before .before .put2 .ensures))
 
 pub row-n-spec : {M : Type 1} → statement M
 row-n-spec =

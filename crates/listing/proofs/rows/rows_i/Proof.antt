@@ -1,7 +1,7 @@
 -- `rows_i` meets its contract. Assumes nothing.
 use Rattle.listing.proofs.TableRows.{instrs-none, instrs-more}
 use Rattle.rules.specs.Word.{wordIns}
-use Rattle.listing.proofs.Writes.{Left, begin, only, part, write, room, done}
+use Rattle.listing.proofs.Writes.{Left, begin, only, part, write, room, done, same}
 use Rattle.rules.specs.Listing as Listing
 use native.Mathlib.Omega.{arith}
 use Prim.Native.Nat.{_≤_, _-_}
@@ -43,10 +43,10 @@ loop-again c =
     let c9 = c .before .before .before .before .before .before .before .before .before in
     let l = c .before .before .before .before .before .before .loop in
     let h = c .before .before .before .before .before .loop-test .taken in
-    (search needs, search needs, write (part (instrs-more (l .i) (c9 .args .to) (c9 .args .instructions .now) h (c9 .pre .1 .0)) (l .inv .2)) (c .before .before .row-i .ensures) (c .before .before .row-i .kept .0))
+    (search needs, search needs, write (part (instrs-more (l .i) (c9 .args .to) (c9 .args .instructions .now) h (c9 .pre .1 .0)) (l .inv .2)) (c .before .before .row-i .ensures))
 
 same-length : tie.Need-same-length Inv-loop μ-loop
-same-length c = c .before .loop .inv .2 .same
+same-length c = same (c .before .loop .inv .2)
 
 returns : tie.Need-returns Inv-loop μ-loop
 returns c =

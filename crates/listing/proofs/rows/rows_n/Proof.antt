@@ -1,6 +1,6 @@
 -- `rows_n` meets its contract. Assumes nothing.
 use Rattle.listing.proofs.TableRows.{numbers-none, numbers-more}
-use Rattle.listing.proofs.Writes.{Left, begin, only, part, write, room, done}
+use Rattle.listing.proofs.Writes.{Left, begin, only, part, write, room, done, same}
 use Rattle.rules.specs.Listing as Listing
 use native.Mathlib.Omega.{arith}
 use Prim.Native.Nat.{_≤_, _-_}
@@ -43,10 +43,10 @@ loop-again c =
     let c8 = c .before .before .before .before .before .before .before .before in
     let l = c .before .before .before .before .before .before .loop in
     let h = c .before .before .before .before .before .loop-test .taken in
-    (search needs, write (part (numbers-more (l .i) (c8 .args .n) (c8 .args .numbers .now) h (c8 .pre .0) (record { sfits = c .before .before .before .before .z .given })) (l .inv .1)) (c .before .before .row-n .ensures) (c .before .before .row-n .kept .0))
+    (search needs, write (part (numbers-more (l .i) (c8 .args .n) (c8 .args .numbers .now) h (c8 .pre .0) (record { sfits = c .before .before .before .before .z .given })) (l .inv .1)) (c .before .before .row-n .ensures))
 
 same-length : tie.Need-same-length Inv-loop μ-loop
-same-length c = c .before .loop .inv .1 .same
+same-length c = same (c .before .loop .inv .1)
 
 returns : tie.Need-returns Inv-loop μ-loop
 returns c =

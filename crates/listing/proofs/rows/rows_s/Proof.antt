@@ -1,6 +1,6 @@
 -- `rows_s` meets its contract. Assumes nothing.
 use Rattle.listing.proofs.SectionRows.{sections-all, sections-none, sections-more, left-more}
-use Rattle.listing.proofs.Writes.{Left, begin, part, write, room, done}
+use Rattle.listing.proofs.Writes.{Left, begin, part, write, room, done, same}
 use Rattle.tables.specs.Runs.{total, held}
 use Rattle.rules.specs.Tables.{readSections}
 use Rattle.rules.specs.Listing as Listing
@@ -60,7 +60,7 @@ rows-i-requires c κs =
     let l = c .before .before .before .before .before .before .before .before .loop in
     let p = c12 .pre in
     let z = left-more (l .i) (c12 .args .n) (l .k) (c12 .args .e) (c12 .args .sections .now) (c12 .args .instructions .now) (c7 .loop-test .taken) (c12 .pre .0) (c12 .pre .1 .0) (l .inv .1) _ (c5 .count .ensures) in
-    (omega arith, (omega arith, room (write (part (sections-more (l .i) (c12 .args .n) (l .k) (c12 .args .e) (c12 .args .sections .now) (c12 .args .instructions .now) (c7 .loop-test .taken) (c12 .pre .0) (c12 .pre .1 .0) (l .inv .1) _ (c5 .count .ensures)) (l .inv .2)) (c .before .before .before .row-s .ensures) (c .before .before .before .row-s .kept .0)) (p .1 .1 .1)))
+    (omega arith, (omega arith, room (write (part (sections-more (l .i) (c12 .args .n) (l .k) (c12 .args .e) (c12 .args .sections .now) (c12 .args .instructions .now) (c7 .loop-test .taken) (c12 .pre .0) (c12 .pre .1 .0) (l .inv .1) _ (c5 .count .ensures)) (l .inv .2)) (c .before .before .before .row-s .ensures)) (p .1 .1 .1)))
 
 add-i : tie.Need-add-i Inv-loop μ-loop
 add-i c = search needs
@@ -75,10 +75,10 @@ loop-again c =
     let c15 = c8 .before .before .before .before .before .before .before in
     let l = c .before .before .before .before .before .before .before .before .before .before .before .loop in
     let h = c .before .before .before .before .before .before .before .before .before .before .loop-test .taken in
-    (search needs, left-more (l .i) (c15 .args .n) (l .k) (c15 .args .e) (c15 .args .sections .now) (c15 .args .instructions .now) h (c15 .pre .0) (c15 .pre .1 .0) (l .inv .1) _ (c8 .count .ensures), write (write (part (sections-more (l .i) (c15 .args .n) (l .k) (c15 .args .e) (c15 .args .sections .now) (c15 .args .instructions .now) h (c15 .pre .0) (c15 .pre .1 .0) (l .inv .1) _ (c8 .count .ensures)) (l .inv .2)) (c6 .row-s .ensures) (c6 .row-s .kept .0)) (c .before .before .rows-i .ensures) (c .before .before .rows-i .kept .0))
+    (search needs, left-more (l .i) (c15 .args .n) (l .k) (c15 .args .e) (c15 .args .sections .now) (c15 .args .instructions .now) h (c15 .pre .0) (c15 .pre .1 .0) (l .inv .1) _ (c8 .count .ensures), write (write (part (sections-more (l .i) (c15 .args .n) (l .k) (c15 .args .e) (c15 .args .sections .now) (c15 .args .instructions .now) h (c15 .pre .0) (c15 .pre .1 .0) (l .inv .1) _ (c8 .count .ensures)) (l .inv .2)) (c6 .row-s .ensures)) (c .before .before .rows-i .ensures))
 
 same-length : tie.Need-same-length Inv-loop μ-loop
-same-length c = c .before .loop .inv .2 .same
+same-length c = same (c .before .loop .inv .2)
 
 returns : tie.Need-returns Inv-loop μ-loop
 returns c =

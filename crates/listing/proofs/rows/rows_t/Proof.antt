@@ -1,7 +1,7 @@
 -- `rows_t` meets its contract. Assumes nothing.
 use Rattle.listing.proofs.TableRows.{texts-none, texts-more}
 use Rattle.rules.specs.Word.{wordSpan}
-use Rattle.listing.proofs.Writes.{Left, begin, only, part, write, room, done}
+use Rattle.listing.proofs.Writes.{Left, begin, only, part, write, room, done, same}
 use Rattle.rules.specs.Listing as Listing
 use native.Mathlib.Omega.{arith}
 use Prim.Native.Nat.{_≤_, _-_}
@@ -84,10 +84,10 @@ loop-again c =
     let i = c13 .pre .1 .0 (l .i) h in
     let s = c .before .before .before .before .before .before .start .ensures in
     let n = c .before .before .before .before .before .length .ensures in
-    (search needs, write (part (texts-more (c13 .args .pool .now) (l .i) (c13 .args .n) (c13 .args .strings .now) h (c13 .pre .0) _ _ s n (omega arith)) (l .inv .1)) (c .before .before .row-t .ensures) (c .before .before .row-t .kept .0))
+    (search needs, write (part (texts-more (c13 .args .pool .now) (l .i) (c13 .args .n) (c13 .args .strings .now) h (c13 .pre .0) _ _ s n (omega arith)) (l .inv .1)) (c .before .before .row-t .ensures))
 
 same-length : tie.Need-same-length Inv-loop μ-loop
-same-length c = c .before .loop .inv .1 .same
+same-length c = same (c .before .loop .inv .1)
 
 returns : tie.Need-returns Inv-loop μ-loop
 returns c =

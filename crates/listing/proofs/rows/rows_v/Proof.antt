@@ -1,7 +1,7 @@
 -- `rows_v` meets its contract. Assumes nothing.
 use Rattle.listing.proofs.TableRows.{names-none, names-mark, names-more}
 use mathlib.Core.Logic.{⊎-elim}
-use Rattle.listing.proofs.Writes.{Left, begin, only, part, write, room, done}
+use Rattle.listing.proofs.Writes.{Left, begin, only, part, write, room, done, same}
 use Rattle.rules.specs.Listing as Listing
 use native.Mathlib.Omega.{arith}
 use Prim.Native.Nat.{_≤_, _-_}
@@ -45,10 +45,10 @@ loop-again c =
     let l = c .before .before .before .loop in
     let h = c .before .before .loop-test .taken in
     let p = c6 .pre .0 in
-    (search needs, ⊎-elim (λ w. rw (w .5, w .6) (write (part (names-more (l .i) (c6 .args .n) (c6 .args .names .now) h p (w .0 .taken)) (l .inv .1)) (w .2 .ensures) (w .2 .kept .0))) (λ w. rw (w .1, w .2) (part (names-mark (l .i) (c6 .args .n) (c6 .args .names .now) h p (w .0 .left)) (l .inv .1))) (c .if1 .came))
+    (search needs, ⊎-elim (λ w. rw (w .5, w .6) (write (part (names-more (l .i) (c6 .args .n) (c6 .args .names .now) h p (w .0 .taken)) (l .inv .1)) (w .2 .ensures))) (λ w. rw (w .1, w .2) (part (names-mark (l .i) (c6 .args .n) (c6 .args .names .now) h p (w .0 .left)) (l .inv .1))) (c .if1 .came))
 
 same-length : tie.Need-same-length Inv-loop μ-loop
-same-length c = c .before .loop .inv .1 .same
+same-length c = same (c .before .loop .inv .1)
 
 returns : tie.Need-returns Inv-loop μ-loop
 returns c =
