@@ -36,14 +36,14 @@ pub spelled-part : (s : List ℕ) (n p : ℕ) → p % byteBits + n ≤ byteBits 
 unfolding spelled bit
 spelled-part s zero p h = omega arith
 spelled-part s (suc zero) p h =
-    let e : byteBits - p % byteBits - 1 ≡ 7 - p % byteBits = omega arith in
+    let e : byteBits - p % byteBits - 1 ≡ byteBits - 1 - p % byteBits = omega arith in
     rw e (omega arith)
 spelled-part s (suc (suc n)) p h =
     let a : suc p % byteBits ≡ p % byteBits + 1 = omega arith in
     let b : suc p / byteBits ≡ p / byteBits = omega arith in
     let i = spelled-part s (suc n) (suc p) (omega arith) in
     let c : byteBits - (p % byteBits + 1) - suc n ≡ byteBits - p % byteBits - suc (suc n) = omega arith in
-    let d : 7 - p % byteBits ≡ byteBits - p % byteBits - suc (suc n) + suc n = omega arith in
+    let d : byteBits - 1 - p % byteBits ≡ byteBits - p % byteBits - suc (suc n) + suc n = omega arith in
     rw (i, a, b, c, d) (sym (split (getD s (p / byteBits) 0) (byteBits - p % byteBits - suc (suc n)) (suc n)))
   where
     split : (x k m : ℕ) → x / 2 ^ k % 2 ^ suc m ≡ x / 2 ^ (k + m) % 2 * 2 ^ m + x / 2 ^ k % 2 ^ m

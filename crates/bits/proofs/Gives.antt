@@ -52,13 +52,13 @@ never {A} {x} {n} e = let z : _≡_ {A = ℕ} 0 1 = cc in omega arith
 -- ---- steps
 
 -- a test that passes, and one that does not
-pub passes : {a b n : ℕ} {s : List ℕ} {c : At} → a < b → Gives (demand (ltb a b) n) s c (ok (n, c))
+pub passes : (n : ℕ) {b : Bool} {s : List ℕ} {c : At} → b ≡ true → Gives (demand b n) s c (ok (tt, c))
 unfolding demand pure
-passes {a} {b} h = record { is = rw (lt-ltb a b h) }
+passes n e = record { is = rw e }
 
-pub fails : {a b n : ℕ} {s : List ℕ} {c : At} → b ≤ a → Gives (demand (ltb a b) n) s c (refused n)
+pub fails : {b : Bool} {n : ℕ} {s : List ℕ} {c : At} → b ≡ false → Gives (demand b n) s c (refused n)
 unfolding demand refuse
-fails {a} {b} h = record { is = rw (le-ltb a b h) }
+fails e = record { is = rw e }
 
 -- a field that was there, and one that was not
 pub bits-in : (s : List ℕ) (w : ℕ) (c : At) (v p : ℕ) → ok (v, p) ≡ field s w (c .pos) → Gives (bits w) s c (ok (v, record { pos = p; nodes = c .nodes }))
@@ -80,7 +80,7 @@ pub short : (s : List ℕ) (w : ℕ) (c : At) (r : Field) → r ≡ Short → fi
 short s w c r t e = let k : refused endsInField ≡ field s w (c .pos) = rw t at e in bits-out s w c k
 
 -- a node that begins, and one too many
-pub begins : (s : List ℕ) (c : At) → c .nodes < mostNodes → Gives begin s c (ok (0, record { pos = c .pos; nodes = suc (c .nodes) }))
+pub begins : (s : List ℕ) (c : At) → c .nodes < mostNodes → Gives begin s c (ok (tt, record { pos = c .pos; nodes = suc (c .nodes) }))
 unfolding begin
 begins s c h = record { is = rw (lt-ltb (c .nodes) mostNodes h, begin) }
 
@@ -97,7 +97,7 @@ unfolding beginR
 begin-many w zero h k = absurd (h refl)
 begin-many w (suc d) h k = stop _ (too-many _ _ k)
 
-begin-then : (w d : ℕ) {s : List ℕ} {c c1 : At} {res : Res (ℕ × At)} → (d ≡ 0 → ⊥) → Gives begin s c (ok (0, c1)) → Gives (bits w) s c1 res → Gives (beginR w d) s c res
+begin-then : (w d : ℕ) {s : List ℕ} {c c1 : At} {res : Res (ℕ × At)} → (d ≡ 0 → ⊥) → Gives begin s c (ok (tt, c1)) → Gives (bits w) s c1 res → Gives (beginR w d) s c res
 unfolding beginR
 begin-then w zero h g k = absurd (h refl)
 begin-then w (suc d) h g k = then _ g k
@@ -108,24 +108,24 @@ not-deep w zero g = absurd (never (unique g (begin-deep w 0 refl)))
 not-deep w (suc d) g = omega arith
 
 -- characters that are there, and characters that are not
-pub chars-in : (n : ℕ) (s : List ℕ) (p m : ℕ) → p + 7 * n ≤ byteBits * length s → Gives (many n (bits charBits)) s (record { pos = p; nodes = m }) (ok (charsAt s n p, record { pos = p + 7 * n; nodes = m }))
+pub chars-in : (n : ℕ) (s : List ℕ) (p m : ℕ) → p + charBits * n ≤ byteBits * length s → Gives (many n (bits charBits)) s (record { pos = p; nodes = m }) (ok (charsAt s n p, record { pos = p + charBits * n; nodes = m }))
 unfolding many charsAt
 chars-in zero s p m h = let e : p + 0 ≡ p = omega arith in rw e done
 chars-in (suc n) s p m h =
-    let e : p + 7 * suc n ≡ p + 7 + 7 * n = omega arith in
-    rw e (then _ (bits-in s 7 (record { pos = p; nodes = m }) _ _ (sym (field-in s 7 p (omega arith)))) (then _ (chars-in n s (p + 7) m (omega arith)) done))
+    let e : p + charBits * suc n ≡ p + charBits + charBits * n = omega arith in
+    rw e (then _ (bits-in s charBits (record { pos = p; nodes = m }) _ _ (sym (field-in s charBits p (omega arith)))) (then _ (chars-in n s (p + charBits) m (omega arith)) done))
 
-pub chars-out : (n : ℕ) (s : List ℕ) (p m : ℕ) → p ≤ byteBits * length s → byteBits * length s < p + 7 * n → Gives (many n (bits charBits)) s (record { pos = p; nodes = m }) (refused endsInField)
+pub chars-out : (n : ℕ) (s : List ℕ) (p m : ℕ) → p ≤ byteBits * length s → byteBits * length s < p + charBits * n → Gives (many n (bits charBits)) s (record { pos = p; nodes = m }) (refused endsInField)
 unfolding many
 chars-out zero s p m i h = absurd (omega arith)
-chars-out (suc n) s p m i h = by n s p m (λ j k. chars-out n s (p + 7) m j k) h (leb (p + 7) (byteBits * length s)) refl
+chars-out (suc n) s p m i h = by n s p m (λ j k. chars-out n s (p + charBits) m j k) h (leb (p + charBits) (byteBits * length s)) refl
   where
-    by : (n : ℕ) (s : List ℕ) (p m : ℕ) → (p + 7 ≤ byteBits * length s → byteBits * length s < p + 7 + 7 * n → Gives (many n (bits charBits)) s (record { pos = p + 7; nodes = m }) (refused endsInField))
-        → byteBits * length s < p + 7 * suc n → (b : Bool) → leb (p + 7) (byteBits * length s) ≡ b → Gives (many (suc n) (bits charBits)) s (record { pos = p; nodes = m }) (refused endsInField)
+    by : (n : ℕ) (s : List ℕ) (p m : ℕ) → (p + charBits ≤ byteBits * length s → byteBits * length s < p + charBits + charBits * n → Gives (many n (bits charBits)) s (record { pos = p + charBits; nodes = m }) (refused endsInField))
+        → byteBits * length s < p + charBits * suc n → (b : Bool) → leb (p + charBits) (byteBits * length s) ≡ b → Gives (many (suc n) (bits charBits)) s (record { pos = p; nodes = m }) (refused endsInField)
     by n s p m more h true e =
-        let k : p + 7 ≤ byteBits * length s = leb-true _ _ e in
-        then _ (bits-in s 7 (record { pos = p; nodes = m }) _ _ (sym (field-in s 7 p k))) (stop _ (more k (omega arith)))
-    by n s p m more h false e = stop _ (bits-out s 7 (record { pos = p; nodes = m }) (sym (field-out s 7 p (leb-false _ _ e))))
+        let k : p + charBits ≤ byteBits * length s = leb-true _ _ e in
+        then _ (bits-in s charBits (record { pos = p; nodes = m }) _ _ (sym (field-in s charBits p k))) (stop _ (more k (omega arith)))
+    by n s p m more h false e = stop _ (bits-out s charBits (record { pos = p; nodes = m }) (sym (field-out s charBits p (leb-false _ _ e))))
 
 pub data Seen {A : Type 0} (m : Reader A) (s : List ℕ) (c : At) : Type 0 where
   said : (a : A) (d : At) → Gives m s c (ok (a, d)) → Seen m s c
@@ -186,13 +186,13 @@ op-out {A = A} ops w {v = v} {s = s} {d = d} g h = then _ g (chosen (getElem? op
 -- a limited field, from its bits
 pub below-in : (w n k : ℕ) {a : ℕ} {s : List ℕ} {c d : At} → Gives (bits w) s c (ok (a, d)) → a < n → Gives (belowR w n k) s c (ok (a, d))
 unfolding belowR
-below-in w n k g h = then _ g (then _ (passes h) done)
+below-in w n k g h = then _ g (then _ (passes k (lt-ltb _ n h)) done)
 
 pub below-out : (w n k : ℕ) {a : ℕ} {s : List ℕ} {c d : At} → Gives (bits w) s c (ok (a, d)) → n ≤ a → Gives (belowR w n k) s c (refused k)
 unfolding belowR
-below-out w n k g h = then _ g (stop _ (fails h))
+below-out w n k g h = then _ g (stop _ (fails (le-ltb _ n h)))
 
-below-short : (w n k : ℕ) {x : ℕ} {s : List ℕ} {c : At} → Gives (bits w) s c (refused x) → Gives (belowR w n k) s c (refused x)
+pub below-short : (w n k : ℕ) {x : ℕ} {s : List ℕ} {c : At} → Gives (bits w) s c (refused x) → Gives (belowR w n k) s c (refused x)
 unfolding belowR
 below-short w n k g = stop _ g
 

@@ -4,17 +4,27 @@ use mathlib.Core.List.{List, [], _∷_}
 use Prim.Native.Nat.{ℕ, zero, suc, _+_, _*_, _≤_, _<_}
 use lib.Dec.{ltb}
 use lib.ListN.{length}
-use Rattle.rules.specs.Constants.{mostBytes, mostNodes, byteBits, charBits}
+use Rattle.rules.specs.Constants.{mostBytes, mostNodes, mostChars, byteBits, charBits}
 use Rattle.rules.specs.Refusal.{endsInField, tooDeep}
-use Rattle.rules.specs.Bits.{Res, refused, ok, spelled}
+use Rattle.rules.specs.Bits.{Res, refused, ok, spelled, field}
 use Rattle.rules.specs.Parse.{Reader, At, pure, refuse, demand, begin, bits, many, _>>=_}
+use Rattle.bits.specs.declared.End.{End}
+use Rattle.bits.specs.declared.End.the-variants.{At as EndsAt, Past}
 use Rattle.bits.specs.declared.Field.{Field}
 use Rattle.bits.specs.declared.Field.the-variants.{Value, Short}
 use Rattle.bits.specs.declared.Cursor.{Cursor}
 use Rattle.bits.specs.declared.Step.{Step}
 use Rattle.bits.specs.declared.Step.the-variants.{Next, Refused}
 
--- a field's answer as rules gives it
+-- where the field of w bits at p ends, if it is there
+unfoldable pub fieldEnd : List ℕ → ℕ → ℕ → Res ℕ
+fieldEnd s w p = elim (field s w p) [ refused n ↦ refused n | ok r ↦ ok (r .1) ]
+
+-- that answer, and a field's, as rules gives them
+abbrev pub endRes : End → Res ℕ
+endRes (EndsAt p) = ok p
+endRes Past = refused endsInField
+
 abbrev pub fieldRes : Field → Res (ℕ × ℕ)
 fieldRes (Value v p) = ok (v, p)
 fieldRes Short = refused endsInField
@@ -36,7 +46,7 @@ pub record Fine (s : List ℕ) (c : Cursor) : Type 0 where
   pub statements : c .statements ≤ c .nodes
   pub sections : c .sections ≤ 4 * c .statements
   pub strings : c .strings ≤ c .nodes
-  pub chars : c .chars ≤ 127 * c .strings
+  pub chars : c .chars ≤ mostChars * c .strings
 
 -- from c to c' the nodes grew by n, the statements and their sections by m
 pub record Moved (n m : ℕ) (c c' : Cursor) : Type 0 where

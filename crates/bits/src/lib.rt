@@ -8,16 +8,22 @@ pub mod refusal;
 ghost use mathlib.Core.Path.{_≡_};
 ghost use Prim.Native.Nat.{_≤_, _<_, _+_, _*_, _%_, _^_};
 ghost use lib.ListN.{length};
-ghost use Rattle.rules.specs.Constants.{mostBytes, byteBits, numberBits};
+ghost use Rattle.rules.specs.Constants.{mostBytes, mostChars, byteBits, numberBits};
 ghost use Rattle.rules.specs.Bits.{field, spelled};
 ghost use Rattle.rules.specs.Parse.{bits};
-ghost use Rattle.bits.specs.Reads.{fieldRes, Fine, Takes, Passes, Skips, belowR, beginR};
+ghost use Rattle.bits.specs.Reads.{endRes, fieldEnd, fieldRes, Fine, Takes, Passes, Skips, belowR, beginR};
 use limits::BYTE_BITS;
 use limits::CHAR_BITS;
 use limits::MOST_NODES;
 use refusal::ENDS_IN_FIELD;
 use refusal::TOO_DEEP;
 use refusal::TOO_MANY_NODES;
+
+// Where a field ends, or that the file ends before.
+enum End {
+    At(usize),
+    Past,
+}
 
 // A value with the next bit position, or the end of the file inside the field.
 pub enum Field {
@@ -86,18 +92,29 @@ pub fn peek(s: &[u8], at: usize, w: usize) -> u64
     (v << n) + window(s, at + k, n)
 }
 
+// Whether the field of w bits is there is decided here, and nowhere else.
+fn field_end(s: &[u8], at: usize, w: usize) -> End
+    requires { ⌜ length (now s) ≤ mostBytes ⌝ }
+    ensures { λ r. ⌜ endRes r ≡ fieldEnd (now (s .entry)) w at ⌝ }
+{
+    let bits = s.len() * BYTE_BITS;
+    if at > bits {
+        return End::Past;
+    }
+    if w > bits - at {
+        return End::Past;
+    }
+    End::At(at + w)
+}
+
 pub fn read_field(s: &[u8], at: usize, w: usize) -> Field
     requires { ⌜ (length (now s) ≤ mostBytes) × (w ≤ numberBits) ⌝ }
     ensures { λ r. ⌜ fieldRes r ≡ field (now (s .entry)) w at ⌝ }
 {
-    let bits = s.len() * BYTE_BITS;
-    if at > bits {
+    let End::At(p) = field_end(s, at, w) else {
         return Field::Short;
-    }
-    if w > bits - at {
-        return Field::Short;
-    }
-    Field::Value(peek(s, at, w), at + w)
+    };
+    Field::Value(peek(s, at, w), p)
 }
 
 // The next w bits.
@@ -156,17 +173,17 @@ pub fn pass(s: &[u8], c: Cursor, w: usize) -> Step
     requires { ⌜ Fine (now s) c ⌝ }
     ensures { λ r. ⌜ Passes w (now (s .entry)) c r ⌝ }
 {
-    if s.len() * BYTE_BITS - c.pos < w {
+    let End::At(p) = field_end(s, c.pos, w) else {
         return Step::Refused(ENDS_IN_FIELD);
-    }
+    };
     let mut d = c;
-    d.pos = c.pos + w;
+    d.pos = p;
     Step::Next(0, d)
 }
 
 // n characters are there, and are passed over.
 pub fn skip(s: &[u8], c: Cursor, n: usize) -> Step
-    requires { ⌜ (Fine (now s) c) × (n ≤ 128) ⌝ }
+    requires { ⌜ (Fine (now s) c) × (n ≤ mostChars) ⌝ }
     ensures { λ r. ⌜ Skips n (now (s .entry)) c r ⌝ }
 {
     pass(s, c, CHAR_BITS * n)

@@ -8,29 +8,23 @@ use native.Mathlib.Numerals.{add-one, sub-one}
 use borrow.Author.Tests.{eq-eqb, ne-eqb, eqb-true, eqb-false}
 use lib.Dec.{eqb}
 use lib.ListN.{length}
+use Rattle.rules.specs.Constants.{flagBits, nameLengthBits, charBits}
 use Rattle.rules.specs.Refusal.{equalNames}
-use Rattle.rules.specs.Bits.{Res, refused, ok, bit, spelled, isOne}
+use Rattle.rules.specs.Bits.{Res, refused, ok, spelled, isOne}
 use Rattle.rules.specs.Tree.{Name}
-use Rattle.rules.specs.Parse.{At, name, names, known, sameName, sameChars, demand, bits, pure, refuse}
+use Rattle.rules.specs.Parse.{At, name, names, known, sameName, sameChars, bits}
 use Rattle.bits.specs.Reads.{Gives, Fine, Took, Skips, at, charsAt}
 use Rattle.bits.specs.declared.Step.{Step}
 use Rattle.bits.specs.declared.Step.the-variants.{Next, Refused}
 use Rattle.bits.specs.declared.Cursor.{Cursor}
-use Rattle.names.specs.Names.{charsOf, nameAt, nextName, namesAt, endAt, Named, NamedAll, NamesMid, NamesOne, NamesAll}
+use Rattle.names.specs.Names.{headerBits, charsOf, nameAt, nextName, namesAt, endAt, Named, NamedAll, NamesMid, NamesOne, NamesAll}
 use Rattle.bits.proofs.Bits.{spelled-lt}
-use Rattle.bits.proofs.Gives.{then, stop, done, spells, after}
+use Rattle.bits.proofs.Bytes.{spelled-append}
+use Rattle.bits.proofs.Gives.{then, stop, done, passes, fails, spells, after}
 
-spelled-suc : (s : List ℕ) (w p : ℕ) → spelled s (suc w) p ≡ bit s p * 2 ^ w + spelled s w (suc p)
-unfolding spelled
-spelled-suc s w p = refl
-
-empty : (s : List ℕ) (p : ℕ) → spelled s 0 p ≡ 0
-unfolding spelled
-empty s p = refl
-
--- seven bits are a flag and a length
-head : (s : List ℕ) (p : ℕ) → spelled s 7 p ≡ spelled s 1 p * 64 + spelled s 6 (p + 1)
-head s p = rw add-one (omega (arith, spelled-suc s 6 p, spelled-suc s 0 p, empty s (suc p)))
+-- its first bits together are a flag and a length
+head : (s : List ℕ) (p : ℕ) → spelled s headerBits p ≡ spelled s flagBits p * 2 ^ nameLengthBits + spelled s nameLengthBits (p + flagBits)
+head s p = spelled-append s flagBits nameLengthBits p
 
 and-false : (b : Bool) → (b && false) ≡ false
 and-false true = refl
@@ -55,41 +49,41 @@ unfolding charsAt sameChars
 lengths-differ s zero zero p q h = absurd (h refl)
 lengths-differ s zero (suc n) p q h = refl
 lengths-differ s (suc m) zero p q h = refl
-lengths-differ s (suc m) (suc n) p q h = rw (lengths-differ s m n (p + 7) (q + 7) (λ e. h (ap suc e))) (and-false (eqb (spelled s 7 p) (spelled s 7 q)))
+lengths-differ s (suc m) (suc n) p q h = rw (lengths-differ s m n (p + charBits) (q + charBits) (λ e. h (ap suc e))) (and-false (eqb (spelled s charBits p) (spelled s charBits q)))
 
-pub same-length : (s : List ℕ) (p q : ℕ) → spelled s 7 p ≡ spelled s 7 q → spelled s 6 (p + 1) ≡ spelled s 6 (q + 1)
-same-length s p q e = omega (arith, head s p, head s q, spelled-lt s 6 (p + 1), spelled-lt s 6 (q + 1))
+pub same-length : (s : List ℕ) (p q : ℕ) → spelled s headerBits p ≡ spelled s headerBits q → spelled s nameLengthBits (p + flagBits) ≡ spelled s nameLengthBits (q + flagBits)
+same-length s p q e = omega (arith, head s p, head s q, spelled-lt s nameLengthBits (p + flagBits), spelled-lt s nameLengthBits (q + flagBits))
 
-pub same-first : (s : List ℕ) (p q : ℕ) → spelled s 7 p ≡ spelled s 7 q → sameChars (charsAt s (spelled s 6 (p + 1) + 1) (p + 7)) (charsAt s (spelled s 6 (p + 1) + 1) (q + 7)) ≡ sameName (nameAt s p) (nameAt s q)
+pub same-first : (s : List ℕ) (p q : ℕ) → spelled s headerBits p ≡ spelled s headerBits q → sameChars (charsAt s (spelled s nameLengthBits (p + flagBits) + 1) (p + headerBits)) (charsAt s (spelled s nameLengthBits (p + flagBits) + 1) (q + headerBits)) ≡ sameName (nameAt s p) (nameAt s q)
 unfolding sameName nameAt charsOf
 same-first s p q e =
-    let a : spelled s 1 p ≡ spelled s 1 q = omega (arith, head s p, head s q, spelled-lt s 6 (p + 1), spelled-lt s 6 (q + 1)) in
-    let b : spelled s 6 (p + 1) ≡ spelled s 6 (q + 1) = omega (arith, head s p, head s q, spelled-lt s 6 (p + 1), spelled-lt s 6 (q + 1)) in
-    rw (a, ← b, add-one, beq-same (isOne (spelled s 1 q)))
+    let a : spelled s flagBits p ≡ spelled s flagBits q = omega (arith, head s p, head s q, spelled-lt s nameLengthBits (p + flagBits), spelled-lt s nameLengthBits (q + flagBits)) in
+    let b : spelled s nameLengthBits (p + flagBits) ≡ spelled s nameLengthBits (q + flagBits) = omega (arith, head s p, head s q, spelled-lt s nameLengthBits (p + flagBits), spelled-lt s nameLengthBits (q + flagBits)) in
+    rw (a, ← b, add-one, beq-same (isOne (spelled s flagBits q)))
 
-pub differ-first : (s : List ℕ) (p q : ℕ) → (spelled s 7 p ≡ spelled s 7 q → ⊥) → false ≡ sameName (nameAt s p) (nameAt s q)
+pub differ-first : (s : List ℕ) (p q : ℕ) → (spelled s headerBits p ≡ spelled s headerBits q → ⊥) → false ≡ sameName (nameAt s p) (nameAt s q)
 unfolding sameName nameAt charsOf
-differ-first s p q h = by (eqb (spelled s 6 (p + 1)) (spelled s 6 (q + 1))) refl
+differ-first s p q h = by (eqb (spelled s nameLengthBits (p + flagBits)) (spelled s nameLengthBits (q + flagBits))) refl
   where
-    by : (b : Bool) → eqb (spelled s 6 (p + 1)) (spelled s 6 (q + 1)) ≡ b → false ≡ sameName (nameAt s p) (nameAt s q)
+    by : (b : Bool) → eqb (spelled s nameLengthBits (p + flagBits)) (spelled s nameLengthBits (q + flagBits)) ≡ b → false ≡ sameName (nameAt s p) (nameAt s q)
     by true e =
-        let l : spelled s 6 (p + 1) ≡ spelled s 6 (q + 1) = eqb-true _ _ e in
-        let f : (spelled s 1 p ≡ spelled s 1 q → ⊥) = λ g. h (head s p ∙ omega arith ∙ sym (head s q)) in
-        rw (flags-differ (spelled s 1 p) (spelled s 1 q) (spelled-lt s 1 p) (spelled-lt s 1 q) f)
+        let l : spelled s nameLengthBits (p + flagBits) ≡ spelled s nameLengthBits (q + flagBits) = eqb-true _ _ e in
+        let f : (spelled s flagBits p ≡ spelled s flagBits q → ⊥) = λ g. h (head s p ∙ omega arith ∙ sym (head s q)) in
+        rw (flags-differ (spelled s flagBits p) (spelled s flagBits q) (spelled-lt s flagBits p) (spelled-lt s flagBits q) f)
     by false e =
-        let l : (spelled s 6 (p + 1) ≡ spelled s 6 (q + 1) → ⊥) = eqb-false _ _ e in
-        rw (lengths-differ s (suc (spelled s 6 (p + 1))) (suc (spelled s 6 (q + 1))) (p + 7) (q + 7) (λ g. l (omega arith))) (sym (and-false (Bool·beq (isOne (spelled s 1 p)) (isOne (spelled s 1 q)))))
+        let l : (spelled s nameLengthBits (p + flagBits) ≡ spelled s nameLengthBits (q + flagBits) → ⊥) = eqb-false _ _ e in
+        rw (lengths-differ s (suc (spelled s nameLengthBits (p + flagBits))) (suc (spelled s nameLengthBits (q + flagBits))) (p + headerBits) (q + headerBits) (λ g. l (omega arith))) (sym (and-false (Bool·beq (isOne (spelled s flagBits p)) (isOne (spelled s flagBits q)))))
 
 -- characters compared one by one
-pub chars-more : (s : List ℕ) (n a b : ℕ) → 0 < n → spelled s 7 a ≡ spelled s 7 b → sameChars (charsAt s (n - 1) (a + 7)) (charsAt s (n - 1) (b + 7)) ≡ sameChars (charsAt s n a) (charsAt s n b)
+pub chars-more : (s : List ℕ) (n a b : ℕ) → 0 < n → spelled s charBits a ≡ spelled s charBits b → sameChars (charsAt s (n - 1) (a + charBits)) (charsAt s (n - 1) (b + charBits)) ≡ sameChars (charsAt s n a) (charsAt s n b)
 unfolding charsAt sameChars
 chars-more s zero a b h e = absurd (omega arith)
-chars-more s (suc n) a b h e = rw (sub-one, eq-eqb (spelled s 7 a) (spelled s 7 b) e)
+chars-more s (suc n) a b h e = rw (sub-one, eq-eqb (spelled s charBits a) (spelled s charBits b) e)
 
-pub chars-differ : (s : List ℕ) (n a b : ℕ) → 0 < n → (spelled s 7 a ≡ spelled s 7 b → ⊥) → false ≡ sameChars (charsAt s n a) (charsAt s n b)
+pub chars-differ : (s : List ℕ) (n a b : ℕ) → 0 < n → (spelled s charBits a ≡ spelled s charBits b → ⊥) → false ≡ sameChars (charsAt s n a) (charsAt s n b)
 unfolding charsAt sameChars
 chars-differ s zero a b h e = absurd (omega arith)
-chars-differ s (suc n) a b h e = rw (ne-eqb (spelled s 7 a) (spelled s 7 b) e)
+chars-differ s (suc n) a b h e = rw (ne-eqb (spelled s charBits a) (spelled s charBits b) e)
 
 pub chars-end : (s : List ℕ) (n a b : ℕ) → n ≤ 0 → true ≡ sameChars (charsAt s n a) (charsAt s n b)
 unfolding charsAt sameChars
@@ -113,7 +107,7 @@ known-end s p zero q h = refl
 known-end s p (suc k) q h = absurd (omega arith)
 
 -- where names end
-pub next-gt : (s : List ℕ) (p : ℕ) → p + 14 ≤ nextName s p
+pub next-gt : (s : List ℕ) (p : ℕ) → p + headerBits + charBits ≤ nextName s p
 unfolding nextName charsOf
 next-gt s p = omega arith
 
@@ -139,18 +133,10 @@ names-snoc s (suc k) p = ap (λ (l : List Name). nameAt s p ∷ l) (names-snoc s
 
 -- ---- a name and the names behind it
 
-pass-new : (x : Name) (ys : List Name) {n : ℕ} {s : List ℕ} {c : At} → known x ys ≡ false → Gives (demand (not (known x ys)) n) s c (ok (n, c))
-unfolding demand pure
-pass-new x ys e = record { is = rw e }
-
-fail-old : (x : Name) (ys : List Name) {n : ℕ} {s : List ℕ} {c : At} → known x ys ≡ true → Gives (demand (not (known x ys)) n) s c (refused n)
-unfolding demand refuse
-fail-old x ys e = record { is = rw e }
-
 names-step : (l : ℕ) (ys : List Name) {x : Name} {s : List ℕ} {c c1 : At} {res : Res (List Name × At)} → 0 < l → Gives name s c (ok (x, c1)) → known x ys ≡ false → Gives (names (l - 1) (ys ++ (x ∷ []))) s c1 res → Gives (names l ys) s c res
 unfolding names
 names-step zero ys {x = x} h g e a = absurd (omega arith)
-names-step (suc l) ys {x = x} h g e a = then _ g (then _ (pass-new x ys e) (rw sub-one at a))
+names-step (suc l) ys {x = x} h g e a = then _ g (then _ (passes _ (ap not e)) (rw sub-one at a))
 
 names-short : (l : ℕ) (ys : List Name) {s : List ℕ} {c : At} {n : ℕ} → 0 < l → Gives name s c (refused n) → Gives (names l ys) s c (refused n)
 unfolding names
@@ -160,7 +146,7 @@ names-short (suc l) ys h g = stop _ g
 names-twice : (l : ℕ) (ys : List Name) {x : Name} {s : List ℕ} {c c1 : At} → 0 < l → Gives name s c (ok (x, c1)) → known x ys ≡ true → Gives (names l ys) s c (refused equalNames)
 unfolding names
 names-twice zero ys {x = x} h g e = absurd (omega arith)
-names-twice (suc l) ys {x = x} h g e = then _ g (stop _ (fail-old x ys e))
+names-twice (suc l) ys {x = x} h g e = then _ g (stop _ (fails (ap not e)))
 
 names-end : (l : ℕ) (ys : List Name) {s : List ℕ} {c : At} → l ≤ 0 → Gives (names l ys) s c (ok (ys, c))
 unfolding names
@@ -198,7 +184,7 @@ unfolding namesAt endAt
 names-start n s c f = let e : n - 0 ≡ n = omega arith in record { goes = λ res g. rw e at g; place = refl; moved = omega arith; fine = f }
 
 -- a flag, a length and characters are a name
-pub one-built : {s : List ℕ} {c d e : Cursor} {f l : ℕ} → Took (bits 1) s c 0 0 2 f d → Took (bits 6) s d 0 0 64 l e → (st : Step) → Skips (l + 1) s e st → NamesOne s c st
+pub one-built : {s : List ℕ} {c d e : Cursor} {f l : ℕ} → Took (bits flagBits) s c 0 0 (2 ^ flagBits) f d → Took (bits nameLengthBits) s d 0 0 (2 ^ nameLengthBits) l e → (st : Step) → Skips (l + 1) s e st → NamesOne s c st
 unfolding name nameAt nextName charsOf
 one-built {s = s} {c = c} {d = d} {e = e} {f = f} {l = l} b x (Next v g) u =
     let h = u .here in
@@ -207,10 +193,10 @@ one-built {s = s} {c = c} {d = d} {e = e} {f = f} {l = l} b x (Next v g) u =
     let m = b .moved in
     let n = x .moved in
     let o = h .moved in
-    let i : d .pos ≡ c .pos + 1 = after 1 (b .reads) in
-    let j : e .pos ≡ d .pos + 6 = after 6 (x .reads) in
-    let k : e .pos ≡ c .pos + 7 = omega arith in
-    let y : l ≡ spelled s 6 (c .pos + 1) = rw i at (q .is) in
+    let i : d .pos ≡ c .pos + flagBits = after flagBits (b .reads) in
+    let j : e .pos ≡ d .pos + nameLengthBits = after nameLengthBits (x .reads) in
+    let k : e .pos ≡ c .pos + headerBits = omega arith in
+    let y : l ≡ spelled s nameLengthBits (c .pos + flagBits) = rw i at (q .is) in
     record {
       here = record {
         reads = rw (← p .is, ← k, ← y) (then _ (b .reads) (then _ (x .reads) (then _ (rw add-one at (h .reads)) done)));

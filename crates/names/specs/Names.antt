@@ -2,7 +2,7 @@
 use mathlib.Core.Path.{_≡_}
 use mathlib.Core.List.{List, [], _∷_}
 use Prim.Native.Nat.{ℕ, zero, suc, _+_, _-_, _*_}
-use Rattle.rules.specs.Constants.{flagBits, nameLengthBits, charBits}
+use Rattle.rules.specs.Constants.{headBits, nameBits, flagBits, nameLengthBits, charBits}
 use Rattle.rules.specs.Bits.{Res, refused, ok, spelled, isOne}
 use Rattle.rules.specs.Tree.{Name}
 use Rattle.rules.specs.Parse.{At, name, names}
@@ -11,17 +11,25 @@ use Rattle.bits.specs.declared.Cursor.{Cursor}
 use Rattle.bits.specs.declared.Step.{Step}
 use Rattle.bits.specs.declared.Step.the-variants.{Next, Refused}
 
+-- where the names of a file begin: behind form, lines and their own count
+abbrev pub firstName : ℕ
+firstName = 2 * headBits + nameBits
+
+-- a name's flag and length together
+abbrev pub headerBits : ℕ
+headerBits = flagBits + nameLengthBits
+
 -- how many characters the name at p has
 unfoldable pub charsOf : List ℕ → ℕ → ℕ
 charsOf s p = suc (spelled s nameLengthBits (p + flagBits))
 
 -- the name at p
 unfoldable pub nameAt : List ℕ → ℕ → Name
-nameAt s p = record { isGlobal = isOne (spelled s flagBits p); chars = charsAt s (charsOf s p) (p + 7) }
+nameAt s p = record { isGlobal = isOne (spelled s flagBits p); chars = charsAt s (charsOf s p) (p + headerBits) }
 
 -- where the name at p ends
 unfoldable pub nextName : List ℕ → ℕ → ℕ
-nextName s p = p + 7 + charBits * charsOf s p
+nextName s p = p + headerBits + charBits * charsOf s p
 
 -- the k names from p on, and where they end
 unfoldable pub namesAt : List ℕ → ℕ → ℕ → List Name

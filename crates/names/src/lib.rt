@@ -7,7 +7,7 @@ ghost use lib.ListN.{length};
 ghost use Rattle.rules.specs.Constants.{mostBytes, byteBits};
 ghost use Rattle.rules.specs.Parse.{sameName, known as knownS};
 ghost use Rattle.bits.specs.Reads.{Fine};
-ghost use Rattle.names.specs.Names.{nameAt, nextName, namesAt, endAt, NamesOne, NamesAll};
+ghost use Rattle.names.specs.Names.{headerBits, nameAt, nextName, namesAt, endAt, NamesOne, NamesAll};
 use bits::Cursor;
 use bits::Step;
 use bits::limits::CHAR_BITS;
@@ -15,12 +15,12 @@ use bits::limits::FLAG_BITS;
 use bits::limits::NAME_LENGTH_BITS;
 use bits::refusal::EQUAL_NAMES;
 
-// The bits of a name's flag and length together.
-const HEADER_BITS: usize = 7;
+// A name's flag and length together.
+const HEADER_BITS: usize = FLAG_BITS + NAME_LENGTH_BITS;
 
 // Where the name at q ends, and the next one begins.
 pub fn after(s: &[u8], q: usize) -> usize
-    requires { ⌜ (length (now s) ≤ mostBytes) × (q + 7 ≤ byteBits * length (now s)) ⌝ }
+    requires { ⌜ (length (now s) ≤ mostBytes) × (q + headerBits ≤ byteBits * length (now s)) ⌝ }
     ensures { λ r. ⌜ r ≡ nextName (now (s .entry)) q ⌝ }
 {
     let l = bits::peek(s, q + FLAG_BITS, NAME_LENGTH_BITS) as usize;
@@ -29,7 +29,7 @@ pub fn after(s: &[u8], q: usize) -> usize
 
 // Is the name at q global?
 pub fn is_global(s: &[u8], q: usize) -> bool
-    requires { ⌜ (length (now s) ≤ mostBytes) × (q + 7 ≤ byteBits * length (now s)) ⌝ }
+    requires { ⌜ (length (now s) ≤ mostBytes) × (q + headerBits ≤ byteBits * length (now s)) ⌝ }
     ensures { λ r. ⌜ r ≡ nameAt (now (s .entry)) q .isGlobal ⌝ }
 {
     bits::peek(s, q, FLAG_BITS) == 1

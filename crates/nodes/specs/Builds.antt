@@ -3,7 +3,7 @@ use mathlib.Core.Path.{_≡_}
 use mathlib.Core.List.{List, [], _∷_}
 use Prim.Native.Nat.{ℕ, _+_, _-_, _*_, _≤_, _<_, min}
 use lib.ListN.{length, getD, set}
-use Rattle.rules.specs.Constants.{mostNodes, listBits, flagBits}
+use Rattle.rules.specs.Constants.{mostNodes, mostNames, listBits, flagBits}
 use Rattle.rules.specs.Refusal.{unassigned}
 use Rattle.rules.specs.Bits.{refused, ok}
 use Rattle.rules.specs.Tree.{Tally, Expr, Block, ofExpr, ofBlock}
@@ -102,7 +102,7 @@ mostNodesOf bytes = min mostNodes (4 * bytes)
 pub record Ready (s t : List ℕ) (c : Cursor) (n : ℕ) : Type 0 where
   pub fine : Fine s c
   pub room : mostNodesOf (length s) ≤ length t
-  pub names : n < 256
+  pub names : n ≤ mostNames
 
 -- node i has begun, and c stands behind its kind
 pub record Begun (s t : List ℕ) (c : Cursor) (n i : ℕ) : Type 0 where

@@ -1,7 +1,7 @@
 // The reader of expressions and statements: it fills a lent table of nodes, one word a node.
 //
 // Each reader is shown equal to that of `rules`: it refuses as that does, or the table holds what that reads (specs/Holds) and the
-// cursor has counted it. A caller owes a table for as many nodes as the file can have, fewer than 256 names and a cursor within the limits (`Ready`).
+// cursor has counted it. A caller owes a table for as many nodes as the file can have, at most 255 names and a cursor within the limits (`Ready`).
 pub mod kinds;
 pub mod layout;
 

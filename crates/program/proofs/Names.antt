@@ -10,7 +10,7 @@ use lib.ListN.{length, drop, set, replicate}
 use Rattle.rules.specs.Constants.{mark}
 use Rattle.rules.specs.Tree.{Name}
 use Rattle.rules.specs.Lowered.{Options, nameWord, protects, nameWords}
-use Rattle.names.specs.Names.{nameAt, namesAt, nextName, endAt}
+use Rattle.names.specs.Names.{firstName, headerBits, nameAt, namesAt, nextName, endAt}
 use Rattle.names.proofs.Laws.{end-ge, end-snoc, next-gt}
 use Rattle.tree.specs.Files.{Placed}
 use Rattle.codegen.specs.Does.{regWord}
@@ -61,11 +61,11 @@ drops o s (suc n) zero p (some v ∷ vs) r l h e = rw e
 drops o s (suc n) (suc k) p (v ∷ vs) r l h e = ap (λ m. nameWord (protects o (nameAt s p .isGlobal)) v ∷ m) (drops o s n k (nextName s p) vs r (omega arith) (omega arith) e)
 
 module _ {o : Options} {s : List ℕ} {n k : ℕ} {t t' : List ℕ} (w : WordsTo o s n k t t') where
-  pub word-kept : protects o (nameAt s (endAt s k 24) .isGlobal) ≡ true → WordsTo o s n (k + 1) t t'
-  word-kept e = record { are = λ x vs rest p l m i. w .are x vs rest p l m i ∙ rw (p .are, l, add-one) (ap (λ z. z ++ rest) (keeps o s n k 24 vs m e)) }
+  pub word-kept : protects o (nameAt s (endAt s k firstName) .isGlobal) ≡ true → WordsTo o s n (k + 1) t t'
+  word-kept e = record { are = λ x vs rest p l m i. w .are x vs rest p l m i ∙ rw (p .are, l, add-one) (ap (λ z. z ++ rest) (keeps o s n k firstName vs m e)) }
 
-  pub word-dropped : k < n → protects o (nameAt s (endAt s k 24) .isGlobal) ≡ false → WordsTo o s n (k + 1) t (set t' k mark)
-  word-dropped h e = record { are = λ x vs rest p l m i. rw (w .are x vs rest p l m i, p .are, l, add-one) (drops o s n k 24 vs rest m h e) }
+  pub word-dropped : k < n → protects o (nameAt s (endAt s k firstName) .isGlobal) ≡ false → WordsTo o s n (k + 1) t (set t' k mark)
+  word-dropped h e = record { are = λ x vs rest p l m i. rw (w .are x vs rest p l m i, p .are, l, add-one) (drops o s n k firstName vs rest m h e) }
 
 pub no-word : (o : Options) (s : List ℕ) (n : ℕ) (t : List ℕ) → WordsTo o s n 0 t t
 unfolding wordsTo
@@ -87,7 +87,7 @@ words-done {o} {k = k} w h g x vs rest p l m i = w .are x vs rest p l m i ∙ ap
 -- ---- where they stand
 
 -- the name behind k of n names: its flag and length lie before the end of all
-pub name-inside : (s : List ℕ) (n k p : ℕ) → k < n → endAt s k p + 7 ≤ endAt s n p
+pub name-inside : (s : List ℕ) (n k p : ℕ) → k < n → endAt s k p + headerBits ≤ endAt s n p
 unfolding endAt
 name-inside s zero k p h = absurd (omega arith)
 name-inside s (suc n) zero p h = omega (arith, end-ge s n (nextName s p), next-gt s p)

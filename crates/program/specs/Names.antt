@@ -7,14 +7,14 @@ use lib.ListN.{length}
 use Rattle.rules.specs.Constants.{mostBytes, byteBits}
 use Rattle.rules.specs.Tree.{Name}
 use Rattle.rules.specs.Lowered.{Options, nameWord, protects}
-use Rattle.names.specs.Names.{endAt}
+use Rattle.names.specs.Names.{firstName, endAt}
 use Rattle.tree.specs.Files.{Placed}
 use Rattle.codegen.specs.Does.{regWord}
 
 -- n names stand in the file s, behind its head, and there is a word for each
 pub record NamesReady (s : List ℕ) (n room : ℕ) : Type 0 where
   pub short : length s ≤ mostBytes
-  pub inside : endAt s n 24 ≤ byteBits * length s
+  pub inside : endAt s n firstName ≤ byteBits * length s
   pub words : n ≤ room
 
 -- midway: the first k words are those of their names, the others as they were

@@ -21,7 +21,7 @@ use names::is_global;
 use words::MARK;
 
 // The bit at which a file's names begin: behind form, lines and names.
-const FIRST_NAME: usize = HEAD_BITS + HEAD_BITS + NAME_BITS;
+const FIRST_NAME: usize = 2 * HEAD_BITS + NAME_BITS;
 
 // No name has a register yet.
 pub fn clear_names(names: &mut [u16], n: usize)

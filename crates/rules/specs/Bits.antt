@@ -14,7 +14,7 @@ pub data Res (A : Type 0) : Type 0 where
 
 -- bit i of the bytes s
 unfoldable pub bit : List ℕ → ℕ → ℕ
-bit s i = getD s (i / byteBits) 0 / 2 ^ (7 - i % byteBits) % 2
+bit s i = getD s (i / byteBits) 0 / 2 ^ (byteBits - 1 - i % byteBits) % 2
 
 -- the number that the w bits at position p spell
 unfoldable pub spelled : List ℕ → ℕ → ℕ → ℕ

@@ -1,6 +1,6 @@
 -- The numbers of document 01, each under one name: limits, widths in bits, and what is lent. The refusals stand in Refusal, the opcodes in Opcode.
 use mathlib.Core.List.{List, [], _∷_}
-use Prim.Native.Nat.{ℕ}
+use Prim.Native.Nat.{ℕ, _-_, _^_}
 
 -- ---- limits
 
@@ -26,7 +26,7 @@ mostCount = 65535
 
 -- ---- the tree form: widths of its fields
 
--- the form's number, and the width that it, the lines and the names are counted in
+-- the form's number, and the width that it and the lines are counted in
 abbrev pub form : ℕ
 form = 1
 
@@ -36,6 +36,10 @@ headBits = 8
 -- the count of names, and a name's number
 abbrev pub nameBits : ℕ
 nameBits = 8
+
+-- the names that it can count
+abbrev pub mostNames : ℕ
+mostNames = 2 ^ nameBits - 1
 
 -- a name's length minus one
 abbrev pub nameLengthBits : ℕ
@@ -48,6 +52,10 @@ charBits = 7
 -- a string's length
 abbrev pub stringLengthBits : ℕ
 stringLengthBits = 7
+
+-- the characters that it can count
+abbrev pub mostChars : ℕ
+mostChars = 2 ^ stringLengthBits - 1
 
 -- a flag: global, or inc
 abbrev pub flagBits : ℕ

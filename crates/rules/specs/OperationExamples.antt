@@ -6,6 +6,7 @@ use lib.IntN.{ℤ, pos}
 use lib.ListN.{replicate}
 use Rattle.rules.specs.Constants.{mostBytes, mostCount}
 use Rattle.rules.specs.Bits.{Res, refused, ok}
+use Rattle.rules.specs.Parse.{At, expr, stmt}
 use Rattle.rules.specs.Lowered.{defaults}
 use Rattle.rules.specs.Tables.{Tables, Counts}
 use Rattle.rules.specs.Operations.{size, lower, finish, replace, clean, combine, text, textSpot}
@@ -39,6 +40,15 @@ stringFile = bytes 11 0x01010181E01C0050587100
 pub sized : size stringFile ≡ ok (record { lines = 1; names = 1; statements = 1; nodes = 2; strings = 1; characters = 2 })
 unfolding size stringFile
 sized = refl
+
+-- behind 2,048 nodes
+unfoldable pub full : At
+full = record { pos = 0; nodes = 2048 }
+
+-- a node that is too deep and one too many: 7, before 8; one too many at the end of the file: 8, before its bits
+pub node-order : (expr 0 0 [] full ≡ refused 7) × (stmt 0 0 [] full ≡ refused 7) × (expr 0 1 [] full ≡ refused 8) × (stmt 0 1 [] full ≡ refused 8)
+unfolding expr stmt full
+node-order = (refl, refl, refl, refl)
 
 -- depth 64
 pub deep : size (bytes 67 0x01010004204081020408102040810204081020408102040810204081020408102040810204081020408102040810204081020408102040810204200000000000000000) ≡ ok (record { lines = 1; names = 0; statements = 1; nodes = 64; strings = 0; characters = 0 })

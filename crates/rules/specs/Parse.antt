@@ -8,7 +8,7 @@ use lib.IntN.{ℤ, pos, negsuc}
 use lib.ListN.{length, getD, getElem?}
 use Rattle.rules.specs.Constants.{mostBytes, mostDepth, mostNodes, form, headBits, nameBits, nameLengthBits, charBits, stringLengthBits, flagBits, listBits, stmtKindBits, exprKindBits, operatorBits, assignBits, numberBits, byteBits}
 use Rattle.rules.specs.Refusal as Refusal
-use Rattle.rules.specs.Bits.{Res, refused, ok, field, spelled, isOne}
+use Rattle.rules.specs.Bits.{Res, refused, ok, field, isOne}
 use Rattle.rules.specs.Tree.{Name, Tree, Binop, Unop, Assignop, Expr, Block}
 use Rattle.rules.specs.Tree.{And, Or, Add, Sub, Mul, Div, Mod, Pow, Eq, Ne, Le, Lt, Ge, Gt}
 use Rattle.rules.specs.Tree.{Neg, Not, Abs, Sqrt, Fact, Sin, Cos, Tan, Asin, Acos, Atan}
@@ -38,9 +38,9 @@ unfoldable pub _>>=_ : {A B : Type 0} → Reader A → (A → Reader B) → Read
 _>>=_ m f s c = elim (m s c) [ refused n ↦ refused n | ok r ↦ f (r .0) s (r .1) ]
 
 -- refusal n unless the test passes
-unfoldable pub demand : Bool → ℕ → Reader ℕ
+unfoldable pub demand : Bool → ℕ → Reader (Unit {0})
 unfolding pure refuse
-demand true n = pure n
+demand true n = pure tt
 demand false n = refuse n
 
 -- the next w bits
@@ -49,8 +49,8 @@ unfolding field
 bits w s c = elim (field s w (c .pos)) [ refused n ↦ refused n | ok r ↦ ok (r .0, record { pos = r .1; nodes = c .nodes }) ]
 
 -- a node begins: 8 at one too many
-unfoldable pub begin : Reader ℕ
-begin s c = elim (ltb (c .nodes) mostNodes) [ false ↦ refused Refusal.tooManyNodes | true ↦ ok (0, record { pos = c .pos; nodes = suc (c .nodes) }) ]
+unfoldable pub begin : Reader (Unit {0})
+begin s c = elim (ltb (c .nodes) mostNodes) [ false ↦ refused Refusal.tooManyNodes | true ↦ ok (tt, record { pos = c .pos; nodes = suc (c .nodes) }) ]
 
 -- n times the same
 unfoldable pub many : {A : Type 0} → ℕ → Reader A → Reader (List A)
@@ -99,7 +99,7 @@ nameOf n = do
 
 -- 64 bits in two's complement
 unfoldable pub signed : ℕ → ℤ
-signed n = elim (ltb n (2 ^ 63)) [ true ↦ pos n | false ↦ negsuc (2 ^ 64 - 1 - n) ]
+signed n = elim (ltb n (2 ^ (numberBits - 1))) [ true ↦ pos n | false ↦ negsuc (2 ^ numberBits - 1 - n) ]
 
 -- ---- kinds of nodes; n is the number of names, r reads an operand, q a statement held
 
@@ -237,10 +237,18 @@ names (suc n) before = do
   _ ← demand (not (known x before)) Refusal.equalNames
   names n (before ++ (x ∷ []))
 
+-- how many bits are left
+unfoldable pub left : Reader ℕ
+left s c = ok (byteBits * length s - c .pos, c)
+
 -- the end: fewer than 8 bits are left, all zero
-unfoldable pub fill : Reader ℕ
-unfolding demand spelled
-fill s c = let rest = byteBits * length s - c .pos in elim (ltb rest byteBits) [ false ↦ refused Refusal.leftOver | true ↦ demand (eqb (spelled s rest (c .pos)) 0) Refusal.leftOver s c ]
+unfoldable pub fill : Reader (Unit {0})
+unfolding left bits demand _>>=_
+fill = do
+  n ← left
+  _ ← demand (ltb n byteBits) Refusal.leftOver
+  x ← bits n
+  demand (eqb x 0) Refusal.leftOver
 
 -- one line of a file with n names
 unfoldable pub lineBlock : ℕ → Reader Block

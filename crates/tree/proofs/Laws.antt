@@ -1,7 +1,7 @@
 -- Laws of lines and of the whole file. Assumes nothing.
 use mathlib.Core.Path.{_≡_, refl, sym, _∙_, ap}
 use mathlib.Core.List.{List, [], _∷_}
-use Prim.Native.Nat.{ℕ, zero, suc, _+_, _-_, _*_, _/_, _%_, _<_, _≤_}
+use Prim.Native.Nat.{ℕ, zero, suc, _+_, _-_, _*_, _/_, _%_, _^_, _<_, _≤_}
 use native.Mathlib.Omega.{arith}
 use native.Mathlib.Numerals.{sub-one}
 use borrow.Author.Tests.{eq-eqb, ne-eqb, lt-ltb, le-ltb, le-leb, lt-leb}
@@ -9,38 +9,55 @@ use lib.Dec.{eqb, ltb}
 use lib.ListN.{length, getD, set}
 use Rattle.rules.specs.Constants.{mostBytes, mostDepth, form, headBits, nameBits, byteBits}
 use Rattle.rules.specs.Refusal.{otherForm, zeroLines, leftOver, tooLong}
-use Rattle.rules.specs.Bits.{Res, refused, ok, spelled}
+use Rattle.rules.specs.Bits.{Res, refused, ok}
 use Rattle.rules.specs.Tree.{Block, Tree, ofLines, both, none}
-use Rattle.rules.specs.Parse.{Reader, At, bits, names, many, fill, lineBlock, body, file, parse, demand, pure, refuse}
+use Rattle.rules.specs.Parse.{Reader, At, bits, names, many, left, fill, lineBlock, body, file, parse, demand, _>>=_}
 use Rattle.rules.specs.Operations.{size, sizeOf}
 use Rattle.bits.specs.Reads.{Gives, Fine, Took, at}
 use Rattle.bits.specs.declared.Cursor.{Cursor}
 use Rattle.bits.specs.declared.Step.{Step}
 use Rattle.bits.specs.declared.Step.the-variants.{Next, Refused}
-use Rattle.names.specs.Names.{namesAt, endAt, NamedAll}
+use Rattle.names.specs.Names.{firstName, namesAt, endAt, NamedAll}
 use Rattle.nodes.specs.Holds.{HoldsB}
 use Rattle.nodes.specs.Builds.{listR, Built, heldB, countB}
 use Rattle.tree.specs.declared.SizeAnswer.{SizeAnswer}
 use Rattle.tree.specs.declared.SizeAnswer.the-variants.{Sized, Refused as No}
-use Rattle.tree.specs.Files.{lineWord, HoldsL, no-line, a-line, Lined, LinesMid, LinesRead, Filed, FileRead, Treed, TreeRead, start, origin, widths, Headed, HeadRead, Placed, sizeRes}
-use Rattle.bits.proofs.Gives.{then, stop, done, after}
+use Rattle.tree.specs.Files.{headValues, Ended, EndRead, lineWord, HoldsL, no-line, a-line, Lined, LinesMid, LinesRead, Filed, FileRead, Treed, TreeRead, start, origin, widths, Headed, HeadRead, Placed, sizeRes}
+use Rattle.bits.proofs.Bits.{field-in}
+use Rattle.bits.proofs.Gives.{then, stop, done, passes, fails, bits-in, unique, never, after}
 use Rattle.nodes.proofs.Exprs.{Same}
 use Rattle.nodes.proofs.Blocks.{one-b, begin-at}
 use Rattle.nodes.proofs.Table.{agree-refl, agree-part, agree-trans, moved-b, grows-b, set-below, set-here}
 
 -- ---- the end
 
-pub fill-long : (s : List ℕ) (c : At) → 8 ≤ byteBits * length s - c .pos → Gives fill s c (refused leftOver)
-unfolding fill
-fill-long s c h = record { is = rw (le-ltb (byteBits * length s - c .pos) 8 h, fill) }
+-- where n bits are left
+abbrev rest : ℕ → Reader (Unit {0})
+rest n = demand (ltb n byteBits) leftOver >>= λ _. bits n >>= λ x. demand (eqb x 0) leftOver
 
-pub fill-bits : (s : List ℕ) (c : At) → byteBits * length s - c .pos < 8 → (spelled s (byteBits * length s - c .pos) (c .pos) ≡ 0 → ⊥) → Gives fill s c (refused leftOver)
-unfolding fill demand refuse
-fill-bits s c h e = record { is = rw (lt-ltb (byteBits * length s - c .pos) 8 h, ne-eqb (spelled s (byteBits * length s - c .pos) (c .pos)) 0 e, fill) }
+from-left : {s : List ℕ} {c : At} {res : Res (Unit {0} × At)} (n : ℕ) → byteBits * length s - c .pos ≡ n → Gives (rest n) s c res → Gives fill s c res
+unfolding fill left
+from-left {s} {c} n l g = let h : Gives left s c (ok (byteBits * length s - c .pos, c)) = record { is = refl } in then rest h (rw l g)
 
-pub fill-ok : (s : List ℕ) (c : At) → byteBits * length s - c .pos < 8 → spelled s (byteBits * length s - c .pos) (c .pos) ≡ 0 → Gives fill s c (ok (leftOver, c))
-unfolding fill demand pure
-fill-ok s c h e = record { is = rw (lt-ltb (byteBits * length s - c .pos) 8 h, eq-eqb (spelled s (byteBits * length s - c .pos) (c .pos)) 0 e, fill) }
+pub fill-long : (s : List ℕ) (c : At) → byteBits ≤ byteBits * length s - c .pos → Gives fill s c (refused leftOver)
+fill-long s c h = from-left _ refl (stop _ (fails (le-ltb _ byteBits h)))
+
+module _ {s : List ℕ} {c d : Cursor} {w v : ℕ} (l : byteBits * length s - c .pos ≡ w) (h : w < byteBits) (t : Took (bits w) s c 0 0 (2 ^ w) v d) where
+  pub fill-bits : (v ≡ 0 → ⊥) → Gives fill s (at c) (refused leftOver)
+  fill-bits e = from-left w l (then _ (passes leftOver (lt-ltb w byteBits h)) (then _ (t .reads) (fails (ne-eqb v 0 e))))
+
+  pub fill-ok : v ≡ 0 → Ended s c 0 d
+  fill-ok e = record { reads = from-left w l (then _ (passes leftOver (lt-ltb w byteBits h)) (then _ (t .reads) (passes leftOver (eq-eqb v 0 e)))); none = refl; moved = t .moved; fine = t .fine }
+
+-- the bits that are left are there
+pub fill-there : {s : List ℕ} {c : Cursor} {w x : ℕ} → byteBits * length s - c .pos ≡ w → Fine s c → Gives (bits w) s (at c) (refused x) → ⊥
+fill-there {s = s} {c = c} {w = w} l f g = never (unique (bits-in s w (at c) _ _ (sym (field-in s w (c .pos) (omega arith)))) g)
+
+pub ended : {s : List ℕ} {c d : Cursor} {v : ℕ} {st : Step} → EndRead s c st → st ≡ Next v d → Ended s c v d
+ended h e = rw e at (h .here)
+
+pub not-ended : {s : List ℕ} {c : Cursor} {x : ℕ} {st : Step} → EndRead s c st → st ≡ Refused x → Gives fill s (at c) (refused x)
+not-ended h e = rw e at (h .here)
 
 -- ---- lines
 
@@ -130,14 +147,6 @@ not-lined h e = rw e at (h .here)
 
 -- ---- the file
 
-pub is-one : {a n : ℕ} {s : List ℕ} {c : At} → a ≡ form → Gives (demand (eqb a form) n) s c (ok (n, c))
-unfolding demand pure
-is-one {a} h = record { is = rw (eq-eqb a form h) }
-
-pub not-one : {a n : ℕ} {s : List ℕ} {c : At} → (a ≡ form → ⊥) → Gives (demand (eqb a form) n) s c (refused n)
-unfolding demand refuse
-not-one {a} h = record { is = rw (ne-eqb a form h) }
-
 pub names-length : (s : List ℕ) (n p : ℕ) → length (namesAt s n p) ≡ n
 unfolding namesAt
 names-length s zero p = refl
@@ -155,42 +164,34 @@ pub parse-ok : (s : List ℕ) (x : Tree) (c : At) → length s ≤ mostBytes →
 unfolding parse
 parse-ok s x c h g = rw (le-leb (length s) mostBytes h, parse, g .is)
 
-some-lines : {l n : ℕ} {s : List ℕ} {c : At} → (l ≡ 0 → ⊥) → Gives (demand (ltb 0 l) n) s c (ok (n, c))
-unfolding demand pure
-some-lines {l} h = record { is = rw (lt-ltb 0 l (omega arith)) }
-
-no-lines : {l n : ℕ} {s : List ℕ} {c : At} → l ≡ 0 → Gives (demand (ltb 0 l) n) s c (refused n)
-unfolding demand refuse
-no-lines {l} h = record { is = rw (le-ltb 0 l (omega arith)) }
-
 pub head-1 : {s : List ℕ} {x : ℕ} → Gives (bits headBits) s start (refused x) → Gives file s start (refused x)
 unfolding file
 head-1 g = stop _ g
 
 pub head-2 : {s : List ℕ} {f : ℕ} {c1 : At} → Gives (bits headBits) s start (ok (f, c1)) → (f ≡ form → ⊥) → Gives file s start (refused otherForm)
 unfolding file
-head-2 g h = then _ g (stop _ (not-one h))
+head-2 g h = then _ g (stop _ (fails (ne-eqb _ form h)))
 
 pub head-3 : {s : List ℕ} {f : ℕ} {c1 : At} {x : ℕ} → Gives (bits headBits) s start (ok (f, c1)) → f ≡ form → Gives (bits headBits) s c1 (refused x) → Gives file s start (refused x)
 unfolding file
-head-3 g h a = then _ g (then _ (is-one h) (stop _ a))
+head-3 g h a = then _ g (then _ (passes otherForm (eq-eqb _ form h)) (stop _ a))
 
 pub head-4 : {s : List ℕ} {f l : ℕ} {c1 c2 : At} → Gives (bits headBits) s start (ok (f, c1)) → f ≡ form → Gives (bits headBits) s c1 (ok (l, c2)) → l ≡ 0 → Gives file s start (refused zeroLines)
 unfolding file
-head-4 g h a b = then _ g (then _ (is-one h) (then _ a (stop _ (no-lines b))))
+head-4 {l = l} g h a b = then _ g (then _ (passes otherForm (eq-eqb _ form h)) (then _ a (stop _ (fails (le-ltb 0 l (omega arith))))))
 
 pub head-5 : {s : List ℕ} {f l : ℕ} {c1 c2 : At} {x : ℕ} → Gives (bits headBits) s start (ok (f, c1)) → f ≡ form → Gives (bits headBits) s c1 (ok (l, c2)) → (l ≡ 0 → ⊥) → Gives (bits nameBits) s c2 (refused x) → Gives file s start (refused x)
 unfolding file
-head-5 g h a b e = then _ g (then _ (is-one h) (then _ a (then _ (some-lines b) (stop _ e))))
+head-5 {l = l} g h a b e = then _ g (then _ (passes otherForm (eq-eqb _ form h)) (then _ a (then _ (passes zeroLines (lt-ltb 0 l (omega arith))) (stop _ e))))
 
 behind-head : (l n : ℕ) {s : List ℕ} {f : ℕ} {c1 c2 c3 : At} {res : Res (Tree × At)} → Gives (bits headBits) s start (ok (f, c1)) → f ≡ form → Gives (bits headBits) s c1 (ok (l, c2)) → (l ≡ 0 → ⊥) → Gives (bits nameBits) s c2 (ok (n, c3)) → Gives (body l n) s c3 res → Gives file s start res
 unfolding file
-behind-head l n g h a b e r = then _ g (then _ (is-one h) (then _ a (then _ (some-lines b) (then _ e r))))
+behind-head l n g h a b e r = then _ g (then _ (passes otherForm (eq-eqb _ form h)) (then _ a (then _ (passes zeroLines (lt-ltb 0 l (omega arith))) (then _ e r))))
 
 at-counts : {l l' n n' : ℕ} {s : List ℕ} {c : At} {res : Res (Tree × At)} → l ≡ l' → n ≡ n' → Gives (body l n) s c res → Gives (body l' n') s c res
 at-counts e f g = rw (← e, ← f) g
 
-pub headed : {s : List ℕ} {f l n : ℕ} {c1 c2 c3 : Cursor} → Took (bits headBits) s origin 0 0 256 f c1 → f ≡ form → Took (bits headBits) s c1 0 0 256 l c2 → (l ≡ 0 → ⊥) → Took (bits nameBits) s c2 0 0 256 n c3 → Headed s (l + 256 * n) c3
+pub headed : {s : List ℕ} {f l n : ℕ} {c1 c2 c3 : Cursor} → Took (bits headBits) s origin 0 0 (2 ^ headBits) f c1 → f ≡ form → Took (bits headBits) s c1 0 0 (2 ^ headBits) l c2 → (l ≡ 0 → ⊥) → Took (bits nameBits) s c2 0 0 (2 ^ nameBits) n c3 → Headed s (l + headValues * n) c3
 headed {l = l} {n = n} a h b k d =
     let x = after headBits (a .reads) in
     let y = after headBits (b .reads) in
@@ -202,7 +203,7 @@ headed {l = l} {n = n} a h b k d =
     let q = d .small in
     record {
       goes = λ res g. behind-head l n (a .reads) h (b .reads) k (d .reads) (at-counts (omega arith) (omega arith) g);
-      small = omega arith;
+      few = omega arith;
       place = omega arith;
       nodes = omega arith;
       statements = omega arith;
@@ -215,12 +216,12 @@ headed {l = l} {n = n} a h b k d =
 held-at : {t ls s : List ℕ} {m k i i' k' j j' : ℕ} {xs : List Block} → i ≡ i' → j ≡ j' → HoldsL t ls s m k i xs k' j → HoldsL t ls s m k i' xs k' j'
 held-at p q h = rw (← p, ← q) h
 
-placed : (s : List ℕ) (n p : ℕ) → p ≡ 24 → endAt s n p ≤ byteBits * length s → Placed s (namesAt s n p)
+placed : (s : List ℕ) (n p : ℕ) → p ≡ firstName → endAt s n p ≤ byteBits * length s → Placed s (namesAt s n p)
 placed s n p e h =
     let u = names-length s n p in
     record { are = rw (u, e) refl; inside = rw (u, ← e) h }
 
-pub filed : {s t ls : List ℕ} {v w : ℕ} {c3 c4 c5 c6 : Cursor} → Headed s v c3 → NamedAll (v / 256) s c3 c4 → Lined (v / 256) (v % 256) s t ls c4 c5 → Took fill s c5 0 0 10 w c6 → Filed s t ls v c6
+pub filed : {s t ls : List ℕ} {v w : ℕ} {c3 c4 c5 c6 : Cursor} → Headed s v c3 → NamedAll (v / headValues) s c3 c4 → Lined (v / headValues) (v % headValues) s t ls c4 c5 → Ended s c5 w c6 → Filed s t ls v c6
 unfolding body
 filed {s = s} {v = v} {c3 = c3} {c4 = c4} {c5 = c5} {c6 = c6} h x y z =
     let p = x .moved in
@@ -228,15 +229,15 @@ filed {s = s} {v = v} {c3 = c3} {c4 = c4} {c5 = c5} {c6 = c6} h x y z =
     let r = z .moved in
     let f = x .fine in
     let g = z .fine in
-    let u = names-length s (v / 256) (c3 .pos) in
+    let u = names-length s (v / headValues) (c3 .pos) in
     let l = y .many-lines in
     let i : c4 .nodes ≡ 0 = omega arith in
     let j : c5 .nodes ≡ c6 .nodes = omega arith in
     record {
-      val = record { names = namesAt s (v / 256) (c3 .pos); lines = y .val };
+      val = record { names = namesAt s (v / headValues) (c3 .pos); lines = y .val };
       reads = h .goes _ (then _ (x .reads) (then _ (y .reads) (then _ (z .reads) done)));
       holds = rw (u, l) (held-at i j (y .holds));
-      names = placed s (v / 256) (c3 .pos) (h .place) (rw (← x .place) (f .inside));
+      names = placed s (v / headValues) (c3 .pos) (h .place) (rw (← x .place) (f .inside));
       nodes = omega arith;
       within = omega arith;
       statements = omega arith;
@@ -247,13 +248,13 @@ filed {s = s} {v = v} {c3 = c3} {c4 = c4} {c5 = c5} {c6 = c6} h x y z =
       both = rw (u, l) (omega arith);
     }
 
-pub treed : {s t ls : List ℕ} {v : ℕ} {c : Cursor} → Filed s t ls v c → length s ≤ mostBytes → Treed s t ls (record { lines = v % 256; names = v / 256; statements = c .statements; nodes = c .nodes; strings = c .strings; characters = c .chars })
+pub treed : {s t ls : List ℕ} {v : ℕ} {c : Cursor} → Filed s t ls v c → length s ≤ mostBytes → Treed s t ls (record { lines = v % headValues; names = v / headValues; statements = c .statements; nodes = c .nodes; strings = c .strings; characters = c .chars })
 unfolding sizeOf
 treed {s = s} {v = v} {c = c} f h =
     let k = f .both in
     let m = f .few in
-    let a : v % 256 ≡ length (f .val .lines) = omega arith in
-    let b : v / 256 ≡ length (f .val .names) = omega arith in
+    let a : v % headValues ≡ length (f .val .lines) = omega arith in
+    let b : v / headValues ≡ length (f .val .names) = omega arith in
     record { val = f .val; parses = parse-ok s (f .val) (at c) h (f .reads); holds = f .holds; names = f .names; size-is = rw (a, b, f .statements, f .nodes, f .strings, f .chars); within = f .within }
 
 pub head-ok : {s : List ℕ} {v : ℕ} {c : Cursor} {st : Step} → HeadRead s st → st ≡ Next v c → Headed s v c

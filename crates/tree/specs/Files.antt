@@ -1,19 +1,19 @@
 -- What the steps that read lines and the whole file give: they refuse as the readers of rules do, or the tables hold what those read.
 use mathlib.Core.Path.{_≡_}
 use mathlib.Core.List.{List, [], _∷_}
-use Prim.Native.Nat.{ℕ, _+_, _-_, _*_, _/_, _%_, _≤_, _<_}
+use Prim.Native.Nat.{ℕ, _+_, _-_, _*_, _/_, _%_, _^_, _≤_, _<_}
 use lib.ListN.{length, getD}
-use Rattle.rules.specs.Constants.{byteBits}
+use Rattle.rules.specs.Constants.{byteBits, headBits, mostLines, mostNames}
 use Rattle.rules.specs.Bits.{Res, refused, ok}
 use Rattle.rules.specs.Tree.{Name, Block, Tree, ofLines}
-use Rattle.rules.specs.Parse.{At, many, body, file, parse, lineBlock}
+use Rattle.rules.specs.Parse.{At, many, body, fill, file, parse, lineBlock}
 use Rattle.rules.specs.Operations.{sizeOf}
 use Rattle.rules.specs.Operations as O
-use Rattle.bits.specs.Reads.{Gives, Fine, at}
+use Rattle.bits.specs.Reads.{Gives, Fine, Moved, at}
 use Rattle.bits.specs.declared.Cursor.{Cursor}
 use Rattle.bits.specs.declared.Step.{Step}
 use Rattle.bits.specs.declared.Step.the-variants.{Next, Refused}
-use Rattle.names.specs.Names.{namesAt, endAt}
+use Rattle.names.specs.Names.{firstName, namesAt, endAt}
 use Rattle.nodes.specs.Builds.{Agree, Counted, mostNodesOf}
 use Rattle.nodes.specs.Width.{width}
 use Rattle.nodes.specs.Holds.{HoldsB}
@@ -62,6 +62,20 @@ pub record LinesMid (n total : ℕ) (s t ls : List ℕ) (c c' : Cursor) (k : ℕ
   pub after : c .nodes ≤ c' .nodes
   pub fine : Fine s c'
 
+-- the fill is read, which has no value
+pub record Ended (s : List ℕ) (c : Cursor) (v : ℕ) (c' : Cursor) : Type 0 where
+  pub reads : Gives fill s (at c) (ok (tt, at c'))
+  pub none : v ≡ 0
+  pub moved : Moved 0 0 c c'
+  pub fine : Fine s c'
+
+abbrev pub EndReadAt : List ℕ → Cursor → Step → Type 0
+EndReadAt s c (Next v c') = Ended s c v c'
+EndReadAt s c (Refused k) = Gives fill s (at c) (refused k)
+
+pub record EndRead (s : List ℕ) (c : Cursor) (st : Step) : Type 0 where
+  pub here : EndReadAt s c st
+
 -- before the first bit
 abbrev pub origin : Cursor
 origin = record { pos = 0; nodes = 0; statements = 0; sections = 0; strings = 0; chars = 0 }
@@ -73,11 +87,15 @@ start = at origin
 abbrev pub HoldsTree : List ℕ → List ℕ → List ℕ → Tree → ℕ → Type 0
 HoldsTree s t ls x j = HoldsL t ls s (length (x .names)) 0 0 (x .lines) (length (x .lines)) j
 
+-- lines are counted below this; names stand above them in one number
+abbrev pub headValues : ℕ
+headValues = 2 ^ headBits
+
 -- the head is read: v is its lines and names, and what stands behind it is the body of the file
 pub record Headed (s : List ℕ) (v : ℕ) (c : Cursor) : Type 0 where
-  pub goes : (res : Res (Tree × At)) → Gives (body (v % 256) (v / 256)) s (at c) res → Gives file s start res
-  pub small : v < 65536
-  pub place : c .pos ≡ 24
+  pub goes : (res : Res (Tree × At)) → Gives (body (v % headValues) (v / headValues)) s (at c) res → Gives file s start res
+  pub few : v / headValues ≤ mostNames
+  pub place : c .pos ≡ firstName
   pub nodes : c .nodes ≡ 0
   pub statements : c .statements ≡ 0
   pub sections : c .sections ≡ 0
@@ -94,8 +112,8 @@ pub record HeadRead (s : List ℕ) (st : Step) : Type 0 where
 
 -- the names of the tree stand in the file, from behind the head
 pub record Placed (s : List ℕ) (x : List Name) : Type 0 where
-  pub are : x ≡ namesAt s (length x) 24
-  pub inside : endAt s (length x) 24 ≤ byteBits * length s
+  pub are : x ≡ namesAt s (length x) firstName
+  pub inside : endAt s (length x) firstName ≤ byteBits * length s
 
 -- the whole file is read; v is its lines and names
 pub record Filed (s t ls : List ℕ) (v : ℕ) (c : Cursor) : Type 0 where
@@ -108,9 +126,9 @@ pub record Filed (s t ls : List ℕ) (v : ℕ) (c : Cursor) : Type 0 where
   pub sections : c .sections ≡ widths (val .lines)
   pub strings : c .strings ≡ ofLines (val .lines) .strings
   pub chars : c .chars ≡ ofLines (val .lines) .characters
-  pub few : length (val .lines) < 256
+  pub few : length (val .lines) ≤ mostLines
   pub within : c .nodes ≤ mostNodesOf (length s)
-  pub both : v ≡ length (val .lines) + 256 * length (val .names)
+  pub both : v ≡ length (val .lines) + headValues * length (val .names)
 
 abbrev pub FileAt : List ℕ → List ℕ → List ℕ → Step → Type 0
 FileAt s t ls (Next v c) = Filed s t ls v c

@@ -6,11 +6,10 @@ ghost use mathlib.Core.Path.{_≡_};
 ghost use Prim.Native.Nat.{_≤_, _<_, _*_, _+_};
 ghost use lib.ListN.{length};
 ghost use Rattle.rules.specs.Constants.{mostBytes, mostLines, mostDepth};
-ghost use Rattle.rules.specs.Parse.{fill as fillS};
 ghost use Rattle.rules.specs.Operations.{size as sizeS};
-ghost use Rattle.bits.specs.Reads.{Fine, Takes};
+ghost use Rattle.bits.specs.Reads.{Fine};
 ghost use Rattle.nodes.specs.Builds.{Ready, ReadsList, mostNodesOf};
-ghost use Rattle.tree.specs.Files.{LinesRead, HeadRead, FileRead, TreeRead, sizeRes};
+ghost use Rattle.tree.specs.Files.{LinesRead, EndRead, HeadRead, FileRead, TreeRead, sizeRes};
 use bits::Cursor;
 use bits::Step;
 use bits::limits::BYTE_BITS;
@@ -27,8 +26,8 @@ use bits::refusal::OTHER_FORM;
 use bits::refusal::TOO_LONG;
 use bits::refusal::ZERO_LINES;
 
-// Lines and names are counted below this.
-const HEAD_VALUES: u64 = 256;
+// Lines are counted below this.
+const HEAD_VALUES: u64 = 1 << HEAD_BITS;
 
 // A line's word is its count of statements, below this, and its first node.
 pub const LINE_COUNTS: u64 = 64;
@@ -54,21 +53,23 @@ pub enum SizeAnswer {
     Refused(u64),
 }
 
-// The end: fewer than a byte is left, all zero.
+// The end: fewer than a byte is left, all zero. Those bits are there, so the refusal that is passed on never comes.
 fn fill(s: &[u8], c: Cursor) -> Step
     requires { ⌜ Fine (now s) c ⌝ }
-    ensures { λ r. ⌜ Takes fillS (now (s .entry)) c 0 0 10 r ⌝ }
+    ensures { λ r. ⌜ EndRead (now (s .entry)) c r ⌝ }
 {
-    let bits = s.len() * BYTE_BITS;
-    let p = c.pos;
-    let rest = bits - p;
-    if rest >= BYTE_BITS {
+    let left = s.len() * BYTE_BITS - c.pos;
+    if left >= BYTE_BITS {
         return Step::Refused(LEFT_OVER);
     }
-    if bits::peek(s, p, rest) != 0 {
+    let r = bits::take(s, c, left);
+    let Step::Next(v, d) = r else {
+        return r;
+    };
+    if v != 0 {
         return Step::Refused(LEFT_OVER);
     }
-    Step::Next(LEFT_OVER, c)
+    Step::Next(0, d)
 }
 
 // A line's statements; answers their count. An empty line is read here, since many lines of a short script are.
@@ -106,7 +107,7 @@ fn read_lines(s: &[u8], t: &mut [u64], ls: &mut [u64], c: Cursor, names: u64, li
     Step::Next(0, d)
 }
 
-// Form, lines and names. A step answers one number: here lines and names, each below 256.
+// Form, lines and names. A step answers one number: here lines, and names above them.
 fn read_head(s: &[u8]) -> Step
     requires { ⌜ length (now s) ≤ mostBytes ⌝ }
     ensures { λ r. ⌜ HeadRead (now (s .entry)) r ⌝ }

@@ -91,26 +91,26 @@ bits-reads w s a x e =
     let b = bits-read w s a x e in
     record { nodes = omega (arith, b .nodes); most = λ h. omega (arith, b .nodes); chars = omega (arith, b .pos); inside = λ h. omega (arith, b .pos, b .fits) }
 
-pub demand-reads : (b : Bool) (n : ℕ) (s : List ℕ) (a : At) (x : ℕ × At) → demand b n s a ≡ ok x → Reads s Tree.none a (x .1)
+pub demand-reads : (b : Bool) (n : ℕ) (s : List ℕ) (a : At) (x : Unit {0} × At) → demand b n s a ≡ ok x → Reads s Tree.none a (x .1)
 unfolding demand pure
-demand-reads true n s a x e = subst (λ (z : ℕ × At). Reads s Tree.none a (z .1)) (pure-is n s a x e) (reads-here s a)
+demand-reads true n s a x e = subst (λ (z : Unit {0} × At). Reads s Tree.none a (z .1)) (pure-is tt s a x e) (reads-here s a)
 demand-reads false n s a x e = absurd (refused≢ok n x e)
 
 -- One node more.
 unfoldable pub one : Tally
 one = record { statements = 0; nodes = 1; strings = 0; characters = 0 }
 
-pub begin-reads : (s : List ℕ) (a : At) (x : ℕ × At) → begin s a ≡ ok x → Reads s one a (x .1)
+pub begin-reads : (s : List ℕ) (a : At) (x : Unit {0} × At) → begin s a ≡ ok x → Reads s one a (x .1)
 unfolding begin one
 begin-reads s a x e = go (ltb (a .nodes) mostNodes) refl e
   where
-    go : (b : Bool) → ltb (a .nodes) mostNodes ≡ b → elim b [ false ↦ refused 8 | true ↦ ok (0, record { pos = a .pos; nodes = suc (a .nodes) }) ] ≡ ok x → Reads s one a (x .1)
+    go : (b : Bool) → ltb (a .nodes) mostNodes ≡ b → elim b [ false ↦ refused 8 | true ↦ ok (tt, record { pos = a .pos; nodes = suc (a .nodes) }) ] ≡ ok x → Reads s one a (x .1)
     go false p q = absurd (refused≢ok 8 x q)
     go true p q =
-        let v : ℕ × At = (0, record { pos = a .pos; nodes = suc (a .nodes) }) in
+        let v : Unit {0} × At = (tt, record { pos = a .pos; nodes = suc (a .nodes) }) in
         let z : v ≡ x = ap (unOk x) q in
         subst
-        (λ (y : ℕ × At). Reads s one a (y .1))
+        (λ (y : Unit {0} × At). Reads s one a (y .1))
         z
         (record { nodes = omega arith; most = λ h. omega (arith, ltb-true (a .nodes) 2048 p); chars = omega arith; inside = λ h. h })
 

@@ -32,7 +32,7 @@ passed {A} {B} m f s c r e = go (m s c) refl e
     go (refused n) p q = absurd (refused≢ok n r q)
     go (ok y) p q = record { val = y .0; at = y .1; here = p; success = q }
 
-pub demanded : (b : Bool) (n : ℕ) (s : List ℕ) (c : At) (x : ℕ × At) → demand b n s c ≡ ok x → b ≡ true
+pub demanded : (b : Bool) (n : ℕ) (s : List ℕ) (c : At) (x : Unit {0} × At) → demand b n s c ≡ ok x → b ≡ true
 unfolding demand
 demanded true n s c x e = refl
 demanded false n s c x e = absurd (refused≢ok n x e)

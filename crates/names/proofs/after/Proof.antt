@@ -2,6 +2,7 @@
 use native.Mathlib.Omega.{arith}
 use Prim.Native.Nat.{_+_}
 use borrow.Author.Needs.{needs}
+use Rattle.rules.specs.Constants.{flagBits, nameLengthBits}
 use Rattle.names.specs.Names.{nextName, charsOf}
 use Rattle.bits.proofs.Bits.{spelled-lt}
 use Rattle.names.proofs.after.Statement.{statement}
@@ -18,19 +19,19 @@ add-result c = search needs
 
 add-result-2 : tie.Need-add-result-2
 add-result-2 c =
-    let l = spelled-lt (c .before .before .args .s .now) 6 (c .before .before .args .q + 1) in
+    let l = spelled-lt (c .before .before .args .s .now) nameLengthBits (c .before .before .args .q + flagBits) in
     let e = c .peek .ensures in
     omega arith
 
 mul-result : tie.Need-mul-result
 mul-result c =
-    let l = spelled-lt (c .before .before .args .s .now) 6 (c .before .before .args .q + 1) in
+    let l = spelled-lt (c .before .before .args .s .now) nameLengthBits (c .before .before .args .q + flagBits) in
     let e = c .peek .ensures in
     omega arith
 
 add-result-3 : tie.Need-add-result-3
 add-result-3 c =
-    let l = spelled-lt (c .before .before .args .s .now) 6 (c .before .before .args .q + 1) in
+    let l = spelled-lt (c .before .before .args .s .now) nameLengthBits (c .before .before .args .q + flagBits) in
     let e = c .peek .ensures in
     omega arith
 

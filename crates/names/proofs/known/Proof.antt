@@ -4,6 +4,7 @@ use borrow.Author.Needs.{needs}
 use native.Mathlib.Omega.{arith}
 use Prim.Native.Nat.{_*_, _≤_}
 use mathlib.Core.Path.{_≡_, refl, sym, _∙_}
+use Rattle.rules.specs.Constants.{byteBits}
 use Rattle.rules.specs.Parse.{known as knownS}
 use Rattle.names.specs.Names.{nameAt, namesAt, endAt}
 use Rattle.names.proofs.Laws.{known-yes, known-no, known-end, next-in, next-gt, end-more}
@@ -11,7 +12,7 @@ use Rattle.names.proofs.known.Statement.{statement}
 use Rattle.names.proofs.known.Tie as tie
 
 abbrev Inv-loop : tie.InvT-loop
-Inv-loop s start k p q₀ left₀ q left = (knownS (nameAt s p) (namesAt s left q) ≡ knownS (nameAt s p) (namesAt s k start)) × (endAt s left q ≤ 8 * length s)
+Inv-loop s start k p q₀ left₀ q left = (knownS (nameAt s p) (namesAt s left q) ≡ knownS (nameAt s p) (namesAt s k start)) × (endAt s left q ≤ byteBits * length s)
 
 abbrev μ-loop : tie.MeasureT-loop
 μ-loop s start k p q₀ left₀ q left = left

@@ -4,8 +4,9 @@ use borrow.Author.Needs.{needs}
 use native.Mathlib.Omega.{arith}
 use Prim.Native.Nat.{_+_, _*_, _≤_}
 use mathlib.Core.Path.{_≡_, sym, _∙_}
+use Rattle.rules.specs.Constants.{byteBits, charBits, flagBits, nameLengthBits}
 use Rattle.rules.specs.Parse.{sameChars, sameName}
-use Rattle.names.specs.Names.{nextName, charsOf, nameAt}
+use Rattle.names.specs.Names.{headerBits, nextName, charsOf, nameAt}
 use Rattle.bits.specs.Reads.{charsAt}
 use Rattle.rules.specs.Bits.{spelled}
 use Rattle.names.proofs.Laws.{same-length as lengths-same, same-first, differ-first, chars-more, chars-differ, chars-end}
@@ -14,7 +15,7 @@ use Rattle.names.proofs.same.Statement.{statement}
 use Rattle.names.proofs.same.Tie as tie
 
 abbrev Inv-loop : tie.InvT-loop
-Inv-loop s p q left₀ a₀ b₀ left a b = (sameChars (charsAt s left a) (charsAt s left b) ≡ sameName (nameAt s p) (nameAt s q)) × ((a + 7 * left ≤ 8 * length s) × (b + 7 * left ≤ 8 * length s))
+Inv-loop s p q left₀ a₀ b₀ left a b = (sameChars (charsAt s left a) (charsAt s left b) ≡ sameName (nameAt s p) (nameAt s q)) × ((a + charBits * left ≤ byteBits * length s) × (b + charBits * left ≤ byteBits * length s))
 
 abbrev μ-loop : tie.MeasureT-loop
 μ-loop s p q left₀ a₀ b₀ left a b = left
@@ -45,7 +46,7 @@ peek-requires-3 c κs =
 
 add-left : tie.Need-add-left Inv-loop μ-loop
 add-left c =
-    let l = spelled-lt (c .before .before .before .before .before .args .s .now) 6 (c .before .before .before .before .before .args .p + 1) in
+    let l = spelled-lt (c .before .before .before .before .before .args .s .now) nameLengthBits (c .before .before .before .before .before .args .p + flagBits) in
     let e = c .peek3 .ensures in
     omega arith
 
@@ -63,7 +64,7 @@ loop-holds : tie.Need-loop-holds Inv-loop μ-loop
 unfolding nextName charsOf
 loop-holds c =
     let a = c .before .before .before .before .before .args in
-    let e : spelled (a .s .now) 7 (a .p) ≡ spelled (a .s .now) 7 (a .q) = sym (c .before .before .before .peek .ensures) ∙ c .before .if1 .left ∙ c .before .before .peek2 .ensures in
+    let e : spelled (a .s .now) headerBits (a .p) ≡ spelled (a .s .now) headerBits (a .q) = sym (c .before .before .before .peek .ensures) ∙ c .before .if1 .left ∙ c .before .before .peek2 .ensures in
     let f = lengths-same (a .s .now) (a .p) (a .q) e in
     let g = c .peek3 .ensures in
     let p = c .before .before .before .before .before .pre in

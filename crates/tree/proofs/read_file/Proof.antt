@@ -2,9 +2,9 @@
 use native.Mathlib.Omega.{arith}
 use borrow.Author.Needs.{needs}
 use Rattle.rules.specs.Parse.{body}
-use Rattle.tree.proofs.Laws.{lined, not-lined, head-ok, head-no, filed}
+use Rattle.tree.proofs.Laws.{ended, not-ended, lined, not-lined, head-ok, head-no, filed}
 use Rattle.names.proofs.Laws.{named-ok, named-no}
-use Rattle.bits.proofs.Gives.{then, stop, took, failed}
+use Rattle.bits.proofs.Gives.{then, stop}
 use Rattle.tree.proofs.read_file.Statement.{statement}
 use Rattle.tree.proofs.read_file.Tie as tie
 
@@ -44,7 +44,7 @@ returns-2 c =
 read-lines-requires : tie.Need-read-lines-requires
 read-lines-requires c κs =
     let p = c .before .before .before .before .before .before .before .before .before .before .before .before .before .pre in
-    let h = head-ok (c .before .before .before .before .before .before .before .before .before .read-head .ensures) (c .before .before .before .before .before .before .before .r .given .1) .small in
+    let h = head-ok (c .before .before .before .before .before .before .before .before .before .read-head .ensures) (c .before .before .before .before .before .before .before .r .given .1) .few in
     let n = named-ok (c .before .before .before .before .before .read-names .ensures) (c .before .before .before .r1 .given .1) .fine in
     (record { fine = n; room = p .1 .0; names = omega arith }, omega arith)
 
@@ -92,7 +92,7 @@ returns-4 c =
     let h = head-ok (c .before .before .before .before .before .before .before .before .before .before .before .before .before .before .before .before .before .before .before .before .read-head .ensures) (c .before .before .before .before .before .before .before .before .before .before .before .before .before .before .before .before .before .before .r .given .1) in
     let n = named-ok (c .before .before .before .before .before .before .before .before .before .before .before .before .before .before .before .before .read-names .ensures) (c .before .before .before .before .before .before .before .before .before .before .before .before .before .before .r1 .given .1) in
     let l = lined (c .before .before .before .before .before .before .before .before .before .before .read-lines .ensures) (c .before .before .before .before .r2 .given .1) in
-    let g = h .goes _ (then _ (n .reads) (then _ (l .reads) (stop _ (failed (c .before .before .fill .ensures) e)))) in
+    let g = h .goes _ (then _ (n .reads) (then _ (l .reads) (stop _ (not-ended (c .before .before .fill .ensures) e)))) in
     rw e (record { here = g })
 
 same-length-5 : tie.Need-same-length-5
@@ -106,7 +106,7 @@ returns-5 c =
     let h = head-ok (c .before .before .before .before .before .before .before .before .before .before .before .before .before .before .before .before .before .before .before .before .before .read-head .ensures) (c .before .before .before .before .before .before .before .before .before .before .before .before .before .before .before .before .before .before .before .r .given .1) in
     let n = named-ok (c .before .before .before .before .before .before .before .before .before .before .before .before .before .before .before .before .before .read-names .ensures) (c .before .before .before .before .before .before .before .before .before .before .before .before .before .before .before .r1 .given .1) in
     let l = lined (c .before .before .before .before .before .before .before .before .before .before .before .read-lines .ensures) (c .before .before .before .before .before .r2 .given .1) in
-    let f = took (c .before .before .before .fill .ensures) (c .before .r3 .given .1) in
+    let f = ended (c .before .before .before .fill .ensures) (c .before .r3 .given .1) in
     record { here = filed h n l f }
 
 pub read-file-spec : {M : Type 1} → statement M

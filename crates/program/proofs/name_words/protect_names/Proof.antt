@@ -5,7 +5,7 @@ use native.Mathlib.Omega.{arith}
 use lib.ListN.{length, length-set}
 use mathlib.Core.Logic.{⊎-elim}
 use Rattle.rules.specs.Lowered.{protects}
-use Rattle.names.specs.Names.{nameAt, nextName, endAt}
+use Rattle.names.specs.Names.{firstName, nameAt, nextName, endAt}
 use Rattle.program.specs.Program.{optionsTold}
 use Rattle.program.specs.Names.{WordsTo}
 use Rattle.program.proofs.Names.{no-word, word-kept, word-dropped, words-done, not-flag, is-flag, name-inside, name-next}
@@ -14,7 +14,7 @@ use Rattle.program.proofs.name_words.protect_names.Statement.{statement
 use Rattle.program.proofs.name_words.protect_names.Tie as tie
 
 abbrev Inv-loop : tie.InvT-loop
-Inv-loop s names₀ n options q₀ k₀ names q k = (k ≤ n) × (length names ≡ length names₀) × (q ≡ endAt s k 24) × WordsTo (optionsTold options) s n k names₀ names
+Inv-loop s names₀ n options q₀ k₀ names q k = (k ≤ n) × (length names ≡ length names₀) × (q ≡ endAt s k firstName) × WordsTo (optionsTold options) s n k names₀ names
 
 abbrev μ-loop : tie.MeasureT-loop
 μ-loop s names₀ n options q₀ k₀ names q k = n - k
@@ -27,7 +27,7 @@ is-global-requires : tie.Need-is-global-requires Inv-loop μ-loop
 is-global-requires c κs =
     let r = c .before .before .before .before .pre in
     let v = c .before .loop .inv in
-    let h = name-inside (c .before .before .before .before .args .s .now) _ _ 24 (c .loop-test .taken) in
+    let h = name-inside (c .before .before .before .before .args .s .now) _ _ firstName (c .loop-test .taken) in
     (r .short, omega arith)
 
 protected-requires : tie.Need-protected-requires Inv-loop μ-loop
@@ -43,7 +43,7 @@ after-requires : tie.Need-after-requires Inv-loop μ-loop
 after-requires c κs =
     let r = c .before .before .before .before .before .before .before .pre in
     let v = c .before .before .before .before .loop .inv in
-    let h = name-inside (c .before .before .before .before .before .before .before .args .s .now) _ _ 24 (c .before .before .before .loop-test .taken) in
+    let h = name-inside (c .before .before .before .before .before .before .before .args .s .now) _ _ firstName (c .before .before .before .loop-test .taken) in
     (r .short, omega arith)
 
 add-k : tie.Need-add-k Inv-loop μ-loop
