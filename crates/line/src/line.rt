@@ -20,13 +20,14 @@ use stmts::stmt::codegen_and_link_stmts;
 use stmts::stmt::codegen_from_inside;
 use stmts::stmt::first_link;
 use stmts::stmt::rest_link;
+use words::instr::Section;
 use words::section::SectionOrLine;
 
 // Both cursors behind a line, the counters, and the number behind its sections.
 pub struct LineEnd {
     pub head: usize,
     pub next: Counters,
-    pub number: u16,
+    pub number: Section,
 }
 
 // The counters with another cursor.
@@ -51,13 +52,13 @@ pub fn codegen_from_line(
     i: usize,
     count: usize,
     depth: usize,
-    line: u16,
-    number: u16,
+    line: Section,
+    number: Section,
     head: usize,
     c: Counters,
 ) -> LineEnd
-    requires { ⌜ LineReady (now s) (now nodes) i count depth line number head c (length (now instrs)) (length (now numbers)) (length (now strings)) (length (now pool)) (length (now names)) (length (now sections)) ⌝ }
-    ensures { λ r. ⌜ ((m : ℕ) (x : Block) (z : ℕ) → m ≤ 256 → HoldsB (now (nodes .entry)) (now (s .entry)) m count i x z → LineDone m x line number head c (lent (now (instrs .entry)) (now (numbers .entry)) (now (strings .entry)) (now (pool .entry)) (now (names .entry))) (lent (now (instrs .exit)) (now (numbers .exit)) (now (strings .exit)) (now (pool .exit)) (now (names .exit))) (now (sections .entry)) (now (sections .exit)) (r .head) (r .next) (r .number)) ⌝ }
+    requires { ⌜ LineReady (now s) (now nodes) i count depth (line .0) (number .0) head c (length (now instrs)) (length (now numbers)) (length (now strings)) (length (now pool)) (length (now names)) (length (now sections)) ⌝ }
+    ensures { λ r. ⌜ ((m : ℕ) (x : Block) (z : ℕ) → m ≤ 256 → HoldsB (now (nodes .entry)) (now (s .entry)) m count i x z → LineDone m x (line .0) (number .0) head c (lent (now (instrs .entry)) (now (numbers .entry)) (now (strings .entry)) (now (pool .entry)) (now (names .entry))) (lent (now (instrs .exit)) (now (numbers .exit)) (now (strings .exit)) (now (pool .exit)) (now (names .exit))) (now (sections .entry)) (now (sections .exit)) (r .head) (r .next) (r .number .0)) ⌝ }
 {
     let next = c.err;
     if count == 0 {
@@ -129,9 +130,10 @@ pub fn codegen_from_line(
         e,
     );
     let end = r.next;
+    let behind = r.number;
     LineEnd {
         head: d.at,
         next: end,
-        number: r.number,
+        number: behind,
     }
 }

@@ -1,4 +1,5 @@
 pub mod Words
+pub mod Depth
 pub mod Assembled
 pub mod Before
 pub mod Done

@@ -34,6 +34,7 @@ use Rattle.tree.specs.declared.SizeAnswer.the-variants.{Sized, Refused as No}
 use Rattle.program.specs.Program.{over, Laid, TreeReady}
 use Rattle.lower.specs.Lower.{Limited, Given, Roomy, Assembled}
 use Rattle.lower.proofs.Words.{part-fits, part-whole}
+use Rattle.lower.proofs.Depth.{deep-parsed}
 use Rattle.lower.proofs.Before as Before
 use Rattle.lower.proofs.Done as Done
 
@@ -141,6 +142,7 @@ module _ (s t ls : List ℕ) (u : Counts) (l : Tables) (h : Roomy s t ls u l) wh
         few-lines = omega (arith, lines, k .most-lines);
         few-names = omega (arith, names, k .most-names);
         few-nodes = k .most-nodes;
+        shallow = deep-parsed s x (g .parses);
         few-strings = omega (arith, y .strings, v .strings);
         few-characters = omega (arith, k .most-chars);
         few-sections = omega (arith, lines, k .most-lines, w, n, k .most-nodes);

@@ -1,15 +1,11 @@
--- Runs of stores that do not meet, and lists that are no deeper than they have nodes. Assumes nothing.
+-- Runs of stores that do not meet. Assumes nothing.
 use mathlib.Core.Path.{_≡_, refl, sym, ap, _∙_}
 use mathlib.Core.List.{List, [], _∷_, _++_}
 use Prim.Native.Nat.{ℕ, zero, suc, _+_, _≤_, _<_}
 use native.Mathlib.Omega.{arith}
 use lib.ListN.{length, set}
 use lib.Seq.{sets}
-use Rattle.rules.specs.Tree.{Block, end, ite, assign, ofBlock, statement, node, both, none}
 use Rattle.codegen.proofs.Lists.{sets-sets}
-use Rattle.stmts.specs.Lists.{deep}
-
--- ---- runs
 
 module _ {A : Type 0} where
   -- stores at two places change places
@@ -34,13 +30,3 @@ module _ {A : Type 0} where
   two-runs l a b u u' v v' h =
       ap (λ m. sets m (b + length v) v') (sym (run-run u' (sets l a u) (a + length u) b v h) ∙ ap (λ m. sets m b v) (sets-sets u l a u'))
       ∙ sets-sets v (sets l a (u ++ u')) b v'
-
--- ---- depth
-
-pub deep-nodes : (x : Block) → deep x ≤ ofBlock x .nodes
-unfolding deep ofBlock statement node both none
-deep-nodes end = omega arith
-deep-nodes (Block.goto e xs) = let h = deep-nodes xs in omega arith
-deep-nodes (ite c t f xs) = let h = deep-nodes xs in let i = deep-nodes t in let j = deep-nodes f in omega arith
-deep-nodes (Block.incdec i x xs) = let h = deep-nodes xs in omega arith
-deep-nodes (assign x o e xs) = let h = deep-nodes xs in omega arith

@@ -30,10 +30,10 @@ use Rattle.codegen.proofs.Lists.{map-append, length-map}
 use Rattle.stmts.specs.Makes.{Regs}
 use Rattle.stmts.proofs.Makes.{regs-moved}
 use Rattle.stmts.proofs.Lists.{all-append, runs-append, runs-length, made-width}
-use Rattle.stmts.specs.Lists.{SameLengths}
+use Rattle.stmts.specs.Lists.{deep, SameLengths}
 use Rattle.stmts.specs.Parts.{ownCost}
 use Rattle.line.specs.Lines.{innerNodes, Parted, LineSpent, LineWent, LineDone}
-use Rattle.program.specs.Script.{ownCosts, innerAll, aimedAt, CostsMid, LinesReady, LinesWent, LinesDone, LinesMid}
+use Rattle.program.specs.Script.{ownCosts, innerAll, deepest, aimedAt, CostsMid, LinesReady, LinesWent, LinesDone, LinesMid}
 use Rattle.line.proofs.Parts.{own-most}
 use Rattle.program.proofs.Runs.{two-runs}
 
@@ -63,7 +63,7 @@ pub no-lines : {t ls s : List ℕ} {m k i L z : ℕ} {bs : List Block} → k ≡
 no-lines e (no-line p q) = record { is = refl }
 no-lines e (a-line n f w b p l) = absurd (let h = lines-count l in omega arith)
 
--- what the first line and the others count
+-- what the first line and the others count, and how deep they are
 pub record LinesSum (b : Block) (bs cs : List Block) : Type 0 where
   pub nodes : ofLines cs .nodes ≡ ofBlock b .nodes + ofLines bs .nodes
   pub strings : ofLines cs .strings ≡ ofBlock b .strings + ofLines bs .strings
@@ -71,10 +71,12 @@ pub record LinesSum (b : Block) (bs cs : List Block) : Type 0 where
   pub sections : widths cs ≡ width b + widths bs
   pub own : ownCosts cs ≡ ownCost b + ownCosts bs
   pub inner : innerAll cs ≡ innerNodes b + innerAll bs
+  pub first-deep : deep b ≤ deepest cs
+  pub rest-deep : deepest bs ≤ deepest cs
 
 lines-sum : (b : Block) (bs cs : List Block) → cs ≡ (b ∷ bs) → LinesSum b bs cs
-unfolding ofLines both widths ownCosts innerAll
-lines-sum b bs cs e = rw e (record { nodes = refl; strings = refl; characters = refl; sections = refl; own = refl; inner = refl })
+unfolding ofLines both widths ownCosts innerAll deepest
+lines-sum b bs cs e = rw e (record { nodes = refl; strings = refl; characters = refl; sections = refl; own = refl; inner = refl; first-deep = omega arith; rest-deep = omega arith })
 
 -- line k by its word
 pub record LineHeld (t ls s : List ℕ) (m k i L : ℕ) (bs : List Block) (z : ℕ) : Type 0 where
@@ -252,7 +254,7 @@ module _ {s t ls : List ℕ} {L n0 head0 : ℕ} {c0 : Counters} {t0 : Lent} {se0
           few = p .few;
           words = p .words;
           few-lines = p .few-lines;
-          few-nodes = omega (arith, p .few-nodes, lh .sum);
+          shallow = omega (arith, p .shallow, lh .sum .rest-deep);
           ample = omega (arith, p .ample, lh .sum, sc, ld .cost, ld .spent, ld .number-is, own-most (lh .block), same);
           behind = omega (arith, p .behind, lh .sum, sc, ld .spent, same);
           first-lines = omega (arith, p .first-lines, ld .number-is);

@@ -3,13 +3,14 @@ use mathlib.Core.Path.{_≡_}
 use mathlib.Core.List.{List, _++_}
 use Prim.Native.Nat.{ℕ, _+_, _*_, _≤_, _<_}
 use lib.ListN.{length, drop}
-use Rattle.rules.specs.Constants.{mostBytes, mostNodes}
+use Rattle.rules.specs.Constants.{mostBytes, mostDepth, mostNodes}
 use Rattle.rules.specs.Tree.{Tree, ofLines}
 use Rattle.rules.specs.Machine.{Machine}
 use Rattle.rules.specs.Tables.{Tables, Counts, encode, countsOf}
 use Rattle.rules.specs.Lowered.{Options}
 use Rattle.tree.specs.Files.{HoldsTree, Placed, widths}
 use Rattle.program.specs.declared.options.CodegenOptions.{CodegenOptions}
+use Rattle.program.specs.Script.{deepest}
 
 abbrev pub optionsTold : CodegenOptions → Options
 optionsTold o = record { locals = o .«protect_locals»; globals = o .«protect_globals» }
@@ -42,6 +43,7 @@ pub record TreeReady (s t ls : List ℕ) (L n il nl sl pl ml zl : ℕ) : Type 0 
   pub few-lines : L < 256
   pub few-names : n ≤ 256
   pub few-nodes : ofLines (tree .lines) .nodes ≤ mostNodes
+  pub shallow : deepest (tree .lines) ≤ mostDepth
   pub few-strings : ofLines (tree .lines) .strings ≤ 65535
   pub few-characters : ofLines (tree .lines) .characters ≤ 65535
   pub few-sections : L + widths (tree .lines) ≤ 65535

@@ -1,9 +1,9 @@
 -- All lines: their first sections stand at the lines' numbers, their others behind, and so do the instructions.
 use mathlib.Core.Path.{_≡_}
 use mathlib.Core.List.{List, [], _∷_}
-use Prim.Native.Nat.{ℕ, _+_, _*_, _/_, _%_, _≤_, _<_}
+use Prim.Native.Nat.{ℕ, _+_, _*_, _/_, _%_, _≤_, _<_, max}
 use lib.ListN.{length}
-use Rattle.rules.specs.Constants.{mostBytes, mostNodes}
+use Rattle.rules.specs.Constants.{mostBytes, mostDepth, mostNodes}
 use Rattle.rules.specs.Tree.{Block, ofLines}
 use Rattle.rules.specs.Script.{Script}
 use Rattle.rules.specs.Assemble.{heads, tails}
@@ -15,7 +15,7 @@ use Rattle.codegen.specs.declared.state.Counters.{Counters}
 use Rattle.words.specs.declared.instr.Section.{Section}
 use Rattle.codegen.specs.Does.{Lent}
 use Rattle.stmts.specs.Makes.{Regs, placed}
-use Rattle.stmts.specs.Lists.{Ample}
+use Rattle.stmts.specs.Lists.{deep, Ample}
 use Rattle.stmts.specs.Parts.{ownCost}
 use Rattle.line.specs.Lines.{innerNodes, Parted, LineSpent}
 
@@ -27,6 +27,11 @@ ownCosts (b ∷ bs) = ownCost b + ownCosts bs
 unfoldable pub innerAll : List Block → ℕ
 innerAll [] = 0
 innerAll (b ∷ bs) = innerNodes b + innerAll bs
+
+-- how deep their Ites are nested
+unfoldable pub deepest : List Block → ℕ
+deepest [] = 0
+deepest (b ∷ bs) = max (deep b) (deepest bs)
 
 -- the counters with errors to another line
 abbrev pub aimedAt : Counters → Section → Counters
@@ -81,7 +86,7 @@ pub record LinesReady (s t ls : List ℕ) (k L number head : ℕ) (c : Counters)
   pub few : known ≤ 256
   pub words : L ≤ length ls
   pub few-lines : L < 256
-  pub few-nodes : ofLines blocks .nodes ≤ mostNodes
+  pub shallow : deepest blocks ≤ mostDepth
   pub ample : Ample (ofLines blocks) (widths blocks) known number (placed c head) il nl sl pl ml zl
   pub behind : c .at + 9 * innerAll blocks ≤ il
   pub first-lines : L ≤ number

@@ -14,7 +14,7 @@ ghost use Rattle.tree.specs.Files.{HoldsL};
 ghost use Rattle.stmts.specs.Parts.{ownCost};
 ghost use Rattle.codegen.specs.Does.{lent};
 ghost use Rattle.program.specs.Script.{ownCosts, aimedAt, HeadReady, LinesAt, LinesReady, LinesDone};
-use bits::limits::MOST_NODES;
+use bits::limits::MOST_DEPTH;
 use codegen::state::Counters;
 use line::heads::own_cost;
 use line::line::LineEnd;
@@ -72,7 +72,7 @@ fn aimed_at(c: Counters, err: Section) -> Counters
     }
 }
 
-// All lines. An Ite nests no deeper than there are nodes.
+// All lines. No Ite nests deeper than the limit of depth.
 pub fn codegen_from_lines(
     s: &[u8],
     nodes: &[u64],
@@ -84,12 +84,12 @@ pub fn codegen_from_lines(
     pool: &mut [u8],
     names: &mut [u16],
     count: usize,
-    number: u16,
+    number: Section,
     head: usize,
     c: Counters,
 ) -> LineEnd
-    requires { ⌜ LinesReady (now s) (now nodes) (now lines) 0 count number head c (length (now instrs)) (length (now numbers)) (length (now strings)) (length (now pool)) (length (now names)) (length (now sections)) ⌝ }
-    ensures { λ r. ⌜ ((m : ℕ) (bs : List Block) (i z : ℕ) → m ≤ 256 → HoldsL (now (nodes .entry)) (now (lines .entry)) (now (s .entry)) m 0 i bs count z → LinesDone m count 0 bs number head c (lent (now (instrs .entry)) (now (numbers .entry)) (now (strings .entry)) (now (pool .entry)) (now (names .entry))) (lent (now (instrs .exit)) (now (numbers .exit)) (now (strings .exit)) (now (pool .exit)) (now (names .exit))) (now (sections .entry)) (now (sections .exit)) (r .head) (r .next) (r .number)) ⌝ }
+    requires { ⌜ LinesReady (now s) (now nodes) (now lines) 0 count (number .0) head c (length (now instrs)) (length (now numbers)) (length (now strings)) (length (now pool)) (length (now names)) (length (now sections)) ⌝ }
+    ensures { λ r. ⌜ ((m : ℕ) (bs : List Block) (i z : ℕ) → m ≤ 256 → HoldsL (now (nodes .entry)) (now (lines .entry)) (now (s .entry)) m 0 i bs count z → LinesDone m count 0 bs (number .0) head c (lent (now (instrs .entry)) (now (numbers .entry)) (now (strings .entry)) (now (pool .entry)) (now (names .entry))) (lent (now (instrs .exit)) (now (numbers .exit)) (now (strings .exit)) (now (pool .exit)) (now (names .exit))) (now (sections .entry)) (now (sections .exit)) (r .head) (r .next) (r .number .0)) ⌝ }
 {
     let mut done = LineEnd {
         head,
@@ -111,8 +111,8 @@ pub fn codegen_from_lines(
             names,
             (w / LINE_COUNTS) as usize,
             (w % LINE_COUNTS) as usize,
-            MOST_NODES,
-            k as u16,
+            MOST_DEPTH,
+            Section(k as u16),
             done.number,
             done.head,
             aimed_at(next, next_line(k, count)),

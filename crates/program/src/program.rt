@@ -57,7 +57,7 @@ pub fn codegen_from_program(
         pool,
         names,
         line_count,
-        line_count as u16,
+        Section(line_count as u16),
         0,
         first,
     );
@@ -65,7 +65,7 @@ pub fn codegen_from_program(
     let c = r.next;
     Counts {
         lines: line_count,
-        sections: r.number as usize,
+        sections: r.number.0 as usize,
         instructions: c.at,
         numbers: c.numbers as usize,
         strings: c.strings as usize,

@@ -2,7 +2,7 @@
 //
 // Each function is shown to make a section of what the step of `rules` emits (`Makes`); `codegen_from_own` chooses among them by the node's kind,
 // for lists and for lines (`OwnDone`). A caller owes the node table and room (`Holding`, `OwnReady`), a slot in the table of sections, and
-// instructions below 65,536.
+// instructions below 65,536. Only `emit_jump` lends the counters, and is proved by hand.
 ghost use mathlib.Core.Path.{_≡_};
 ghost use mathlib.Core.List.{List, map};
 ghost use lib.Seq.{sets};
@@ -11,7 +11,7 @@ ghost use Prim.Native.Nat.{ℕ, _+_, _*_, _-_, _≤_, _<_};
 ghost use lib.ListN.{length, getD, set};
 ghost use Rattle.rules.specs.Tree as Tree;
 ghost use Rattle.rules.specs.Tree.{Block, ofExpr};
-ghost use Rattle.codegen.specs.Costs.{Spent};
+ghost use Rattle.codegen.specs.Costs.{Spent, plus-instr};
 ghost use Rattle.exprs.specs.Exprs.{exprCost};
 ghost use Rattle.stmts.specs.Told.{assignCost};
 ghost use Rattle.rules.specs.Word.{runWord, insWord};
@@ -31,6 +31,7 @@ use crate::own::condition;
 use crate::own::line_number;
 use codegen::operators::codegen_incdec;
 use codegen::state::Counters;
+use codegen::state::emit_at;
 use codegen::state::index;
 use nodes::kinds::ASSIGN;
 use nodes::kinds::GOTO;
@@ -50,7 +51,7 @@ use words::section::SectionWord;
 
 // Where a section's word goes, whether it is a line start, and whether it is linked to the section that follows.
 pub struct Place {
-    pub slot: u16,
+    pub slot: Section,
     pub start: bool,
     pub linked: bool,
     pub next: Section,
@@ -59,23 +60,23 @@ pub struct Place {
 // A list's place among the sections: whether it is linked, the number of its first section, the section that follows it.
 pub struct Link {
     pub linked: bool,
-    pub number: u16,
+    pub number: Section,
     pub next: Section,
 }
 
 // The word of a section whose instructions stand from `first` up to `end`.
 pub fn put_section(
     sections: &mut [u64],
-    slot: u16,
+    slot: Section,
     start: bool,
     success: SectionOrLine,
     first: usize,
     end: usize,
 )
-    requires { ⌜ (slot < length (now sections)) × (first ≤ end) × (end < 65536) ⌝ }
-    ensures { λ _. ⌜ now (sections .exit) ≡ set (now (sections .entry)) slot (runWord (Runs.runOf start (Runs.successTold success) first (end - first))) ⌝ }
+    requires { ⌜ (slot .0 < length (now sections)) × (first ≤ end) × (end < 65536) ⌝ }
+    ensures { λ _. ⌜ now (sections .exit) ≡ set (now (sections .entry)) (slot .0) (runWord (Runs.runOf start (Runs.successTold success) first (end - first))) ⌝ }
 {
-    let i = index(slot);
+    let i = index(slot.0);
     let w = SectionWord::pack(start, success, first as u16, (end - first) as u16);
     sections[i] = w.0;
 }
@@ -102,8 +103,8 @@ pub fn codegen_from_step(
     inc: bool,
     x: usize,
 ) -> Counters
-    requires { ⌜ (c .at + 2 ≤ length (now instrs)) × (x < length (now names)) × (c .values < 65535) × (place .slot < length (now sections)) × (c .at + 2 < 65536) ⌝ }
-    ensures { λ r. ⌜ ((n : ℕ) (ns : List ℤ) (ss ps : List ℕ) → x < n → Makes n (codegenIncdec inc x) (place .start) nothing (λ _. link (place .linked) (place .next .0)) (place .slot) c (lent (now (instrs .entry)) ns ss ps (now (names .entry))) (lent (now (instrs .exit)) ns ss ps (now (names .exit))) (now (sections .entry)) (now (sections .exit)) r × Spent c r 2 0 1 0 0) ⌝ }
+    requires { ⌜ (c .at + 2 ≤ length (now instrs)) × (x < length (now names)) × (c .values < 65535) × (place .slot .0 < length (now sections)) × (c .at + 2 < 65536) ⌝ }
+    ensures { λ r. ⌜ ((n : ℕ) (ns : List ℤ) (ss ps : List ℕ) → x < n → Makes n (codegenIncdec inc x) (place .start) nothing (λ _. link (place .linked) (place .next .0)) (place .slot .0) c (lent (now (instrs .entry)) ns ss ps (now (names .entry))) (lent (now (instrs .exit)) ns ss ps (now (names .exit))) (now (sections .entry)) (now (sections .exit)) r × Spent c r 2 0 1 0 0) ⌝ }
 {
     let v = codegen_incdec(instrs, names, c, inc, x);
     let d = v.next;
@@ -132,8 +133,8 @@ pub fn codegen_from_goto(
     c: Counters,
     place: Place,
 ) -> Counters
-    requires { ⌜ Holding (now s) (now nodes) i c 2 1 0 (length (now instrs)) (length (now numbers)) (length (now strings)) (length (now pool)) (length (now names)) × (place .slot < length (now sections)) × (length (now instrs) < 65536) ⌝ }
-    ensures { λ r. ⌜ ((m : ℕ) (e : Tree.Expr) (j : ℕ) → m ≤ 256 → HoldsE (now (nodes .entry)) (now (s .entry)) m i e j → Makes m (lineNumber e) (place .start) nothing Machine.line (place .slot) c (lent (now (instrs .entry)) (now (numbers .entry)) (now (strings .entry)) (now (pool .entry)) (now (names .entry))) (lent (now (instrs .exit)) (now (numbers .exit)) (now (strings .exit)) (now (pool .exit)) (now (names .exit))) (now (sections .entry)) (now (sections .exit)) r × Spent c r (exprCost e + 2) (2 * ofExpr e .nodes + 1) (3 * ofExpr e .nodes + 0) (ofExpr e .strings) (ofExpr e .characters)) ⌝ }
+    requires { ⌜ Holding (now s) (now nodes) i c 2 1 0 (length (now instrs)) (length (now numbers)) (length (now strings)) (length (now pool)) (length (now names)) × (place .slot .0 < length (now sections)) × (length (now instrs) < 65536) ⌝ }
+    ensures { λ r. ⌜ ((m : ℕ) (e : Tree.Expr) (j : ℕ) → m ≤ 256 → HoldsE (now (nodes .entry)) (now (s .entry)) m i e j → Makes m (lineNumber e) (place .start) nothing Machine.line (place .slot .0) c (lent (now (instrs .entry)) (now (numbers .entry)) (now (strings .entry)) (now (pool .entry)) (now (names .entry))) (lent (now (instrs .exit)) (now (numbers .exit)) (now (strings .exit)) (now (pool .exit)) (now (names .exit))) (now (sections .entry)) (now (sections .exit)) r × Spent c r (exprCost e + 2) (2 * ofExpr e .nodes + 1) (3 * ofExpr e .nodes + 0) (ofExpr e .strings) (ofExpr e .characters)) ⌝ }
 {
     let n = line_number(s, nodes, instrs, numbers, strings, pool, names, i, c);
     let d = n.next;
@@ -165,8 +166,8 @@ pub fn codegen_from_set(
     x: usize,
     op: u64,
 ) -> Counters
-    requires { ⌜ Setting (now s) (now nodes) i c x (length (now instrs)) (length (now numbers)) (length (now strings)) (length (now pool)) (length (now names)) × (op < 7) × (place .slot < length (now sections)) × (length (now instrs) < 65536) ⌝ }
-    ensures { λ r. ⌜ ((m : ℕ) (e : Tree.Expr) (j : ℕ) → m ≤ 256 → x < m → HoldsE (now (nodes .entry)) (now (s .entry)) m i e j → Makes m (codegenFromAssign x (getD assignops op Tree.PowTo) e) (place .start) nothing (λ _. link (place .linked) (place .next .0)) (place .slot) c (lent (now (instrs .entry)) (now (numbers .entry)) (now (strings .entry)) (now (pool .entry)) (now (names .entry))) (lent (now (instrs .exit)) (now (numbers .exit)) (now (strings .exit)) (now (pool .exit)) (now (names .exit))) (now (sections .entry)) (now (sections .exit)) r × Spent c r (exprCost e + assignCost (getD assignops op Tree.PowTo)) (2 * ofExpr e .nodes + 2) (3 * ofExpr e .nodes + 2) (ofExpr e .strings) (ofExpr e .characters)) ⌝ }
+    requires { ⌜ Setting (now s) (now nodes) i c x (length (now instrs)) (length (now numbers)) (length (now strings)) (length (now pool)) (length (now names)) × (op < 7) × (place .slot .0 < length (now sections)) × (length (now instrs) < 65536) ⌝ }
+    ensures { λ r. ⌜ ((m : ℕ) (e : Tree.Expr) (j : ℕ) → m ≤ 256 → x < m → HoldsE (now (nodes .entry)) (now (s .entry)) m i e j → Makes m (codegenFromAssign x (getD assignops op Tree.PowTo) e) (place .start) nothing (λ _. link (place .linked) (place .next .0)) (place .slot .0) c (lent (now (instrs .entry)) (now (numbers .entry)) (now (strings .entry)) (now (pool .entry)) (now (names .entry))) (lent (now (instrs .exit)) (now (numbers .exit)) (now (strings .exit)) (now (pool .exit)) (now (names .exit))) (now (sections .entry)) (now (sections .exit)) r × Spent c r (exprCost e + assignCost (getD assignops op Tree.PowTo)) (2 * ofExpr e .nodes + 2) (3 * ofExpr e .nodes + 2) (ofExpr e .strings) (ofExpr e .characters)) ⌝ }
 {
     let d = codegen_from_assign(s, nodes, instrs, numbers, strings, pool, names, i, c, x, op);
     put_section(
@@ -180,6 +181,16 @@ pub fn codegen_from_set(
     d
 }
 
+// A jump behind the other instructions, wherever it leads: `emit` is shown only for jumps to the next line.
+fn emit_jump(instrs: &mut [u64], c: Counters, jump: Instruction) -> Counters
+    requires { ⌜ c .at < length (now instrs) ⌝ }
+    ensures { λ r. ⌜ (now (instrs .exit) ≡ set (now (instrs .entry)) (c .at) (jump .0)) × (r ≡ plus-instr c) ⌝ }
+{
+    let mut d = c;
+    emit_at(instrs, &mut d, jump);
+    d
+}
+
 // An Ite's jump to its then-list, unless that is empty.
 fn add_jump(instrs: &mut [u64], c: Counters, empty: bool, target: Section, test: NumReg) -> Counters
     requires { ⌜ c .at < length (now instrs) ⌝ }
@@ -189,12 +200,7 @@ fn add_jump(instrs: &mut [u64], c: Counters, empty: bool, target: Section, test:
     if empty {
         return c;
     }
-    let n = c.at;
-    let w = Instruction::jump_section_if(target, test);
-    instrs[n] = w.0;
-    let mut d = c;
-    d.at = n + 1;
-    d
+    emit_jump(instrs, c, Instruction::jump_section_if(target, test))
 }
 
 // An Ite's own section: its condition, whose expression is at node i, and its jump. It is left to its else-list.
@@ -213,8 +219,8 @@ pub fn codegen_from_test(
     empty: bool,
     target: Section,
 ) -> Counters
-    requires { ⌜ Holding (now s) (now nodes) i c 2 1 0 (length (now instrs)) (length (now numbers)) (length (now strings)) (length (now pool)) (length (now names)) × (place .slot < length (now sections)) × (length (now instrs) < 65536) ⌝ }
-    ensures { λ r. ⌜ ((m : ℕ) (e : Tree.Expr) (j : ℕ) → m ≤ 256 → HoldsE (now (nodes .entry)) (now (s .entry)) m i e j → Makes m (conditionS e) (place .start) (jump empty (target .0)) (λ _. Machine.section (place .next .0)) (place .slot) c (lent (now (instrs .entry)) (now (numbers .entry)) (now (strings .entry)) (now (pool .entry)) (now (names .entry))) (lent (now (instrs .exit)) (now (numbers .exit)) (now (strings .exit)) (now (pool .exit)) (now (names .exit))) (now (sections .entry)) (now (sections .exit)) r × Spent c r (exprCost e + 1 + jumpCost empty) (2 * ofExpr e .nodes + 1) (3 * ofExpr e .nodes + 0) (ofExpr e .strings) (ofExpr e .characters)) ⌝ }
+    requires { ⌜ Holding (now s) (now nodes) i c 2 1 0 (length (now instrs)) (length (now numbers)) (length (now strings)) (length (now pool)) (length (now names)) × (place .slot .0 < length (now sections)) × (length (now instrs) < 65536) ⌝ }
+    ensures { λ r. ⌜ ((m : ℕ) (e : Tree.Expr) (j : ℕ) → m ≤ 256 → HoldsE (now (nodes .entry)) (now (s .entry)) m i e j → Makes m (conditionS e) (place .start) (jump empty (target .0)) (λ _. Machine.section (place .next .0)) (place .slot .0) c (lent (now (instrs .entry)) (now (numbers .entry)) (now (strings .entry)) (now (pool .entry)) (now (names .entry))) (lent (now (instrs .exit)) (now (numbers .exit)) (now (strings .exit)) (now (pool .exit)) (now (names .exit))) (now (sections .entry)) (now (sections .exit)) r × Spent c r (exprCost e + 1 + jumpCost empty) (2 * ofExpr e .nodes + 1) (3 * ofExpr e .nodes + 0) (ofExpr e .strings) (ofExpr e .characters)) ⌝ }
 {
     let n = condition(s, nodes, instrs, numbers, strings, pool, names, i, c);
     let test = n.reg;
@@ -242,13 +248,13 @@ pub fn codegen_from_own(
     pool: &mut [u8],
     names: &mut [u16],
     i: usize,
-    slot: u16,
+    slot: Section,
     start: bool,
     link: Link,
     c: Counters,
 ) -> Counters
-    requires { ⌜ OwnReady (now s) (now nodes) i (link .number) slot c (length (now instrs)) (length (now numbers)) (length (now strings)) (length (now pool)) (length (now names)) (length (now sections)) ⌝ }
-    ensures { λ r. ⌜ ((m : ℕ) (x : Block) (z : ℕ) → m ≤ 256 → HoldsB (now (nodes .entry)) (now (s .entry)) m 1 i x z → OwnDone m x start (link .linked) (link .number) (link .next .0) slot c (lent (now (instrs .entry)) (now (numbers .entry)) (now (strings .entry)) (now (pool .entry)) (now (names .entry))) (lent (now (instrs .exit)) (now (numbers .exit)) (now (strings .exit)) (now (pool .exit)) (now (names .exit))) (now (sections .entry)) (now (sections .exit)) r) ⌝ }
+    requires { ⌜ OwnReady (now s) (now nodes) i (link .number .0) (slot .0) c (length (now instrs)) (length (now numbers)) (length (now strings)) (length (now pool)) (length (now names)) (length (now sections)) ⌝ }
+    ensures { λ r. ⌜ ((m : ℕ) (x : Block) (z : ℕ) → m ≤ 256 → HoldsB (now (nodes .entry)) (now (s .entry)) m 1 i x z → OwnDone m x start (link .linked) (link .number .0) (link .next .0) (slot .0) c (lent (now (instrs .entry)) (now (numbers .entry)) (now (strings .entry)) (now (pool .entry)) (now (names .entry))) (lent (now (instrs .exit)) (now (numbers .exit)) (now (strings .exit)) (now (pool .exit)) (now (names .exit))) (now (sections .entry)) (now (sections .exit)) r) ⌝ }
 {
     let w = nodes[i];
     let kind = w % KINDS;
@@ -297,8 +303,8 @@ pub fn codegen_from_own(
         );
     }
     let v = (w / WIDTH % WIDTHS) as u16;
-    let first = link.number + 1;
-    let other = Section(first + v);
+    let first = Section(link.number.0 + 1);
+    let other = Section(first.0 + v);
     let test = Place {
         slot,
         start,
@@ -318,6 +324,6 @@ pub fn codegen_from_own(
         c,
         test,
         x == 0,
-        Section(first),
+        first,
     )
 }

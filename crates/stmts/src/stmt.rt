@@ -38,7 +38,7 @@ use words::section::SectionOrLine;
 pub struct Ended {
     pub next: Counters,
     pub node: usize,
-    pub number: u16,
+    pub number: Section,
 }
 
 // How many sections the statement with the word w makes.
@@ -53,30 +53,31 @@ fn made(w: u64) -> u16
 
 // The place of a list's first statement: it goes on to the others, if there are any.
 pub fn first_link(w: u64, count: usize, link: Link) -> Link
-    requires { ⌜ link .number + madeBy w ≤ 65535 ⌝ }
+    requires { ⌜ link .number .0 + madeBy w ≤ 65535 ⌝ }
     ensures linked { λ r. ⌜ r .linked ≡ link .linked ⌝ }
-    ensures number { λ r. ⌜ r .number ≡ link .number ⌝ }
-    ensures next { λ r. ⌜ r .next .0 ≡ entryBy count (link .number + madeBy w) (link .next .0) ⌝ }
+    ensures number { λ r. ⌜ r .number .0 ≡ link .number .0 ⌝ }
+    ensures next { λ r. ⌜ r .next .0 ≡ entryBy count (link .number .0 + madeBy w) (link .next .0) ⌝ }
 {
     if count == 1 {
         return link;
     }
-    let next = Section(link.number + made(w));
+    let number = link.number;
+    let next = Section(number.0 + made(w));
     Link {
         linked: link.linked,
-        number: link.number,
+        number,
         next,
     }
 }
 
 // The place of the others: behind a Goto they are not linked.
 pub fn rest_link(w: u64, link: Link) -> Link
-    requires { ⌜ link .number + madeBy w ≤ 65535 ⌝ }
+    requires { ⌜ link .number .0 + madeBy w ≤ 65535 ⌝ }
     ensures linked { λ r. ⌜ r .linked ≡ linkedBy w (link .linked) ⌝ }
-    ensures number { λ r. ⌜ r .number ≡ link .number + madeBy w ⌝ }
+    ensures number { λ r. ⌜ r .number .0 ≡ link .number .0 + madeBy w ⌝ }
     ensures next { λ r. ⌜ r .next .0 ≡ link .next .0 ⌝ }
 {
-    let number = link.number + made(w);
+    let number = Section(link.number.0 + made(w));
     let next = link.next;
     if w % KINDS == GOTO {
         return Link {
@@ -107,8 +108,8 @@ pub fn codegen_from_stmt(
     link: Link,
     c: Counters,
 ) -> Counters
-    requires { ⌜ ListReady (now s) (now nodes) i 1 depth (link .number) c (length (now instrs)) (length (now numbers)) (length (now strings)) (length (now pool)) (length (now names)) (length (now sections)) ⌝ }
-    ensures { λ r. ⌜ ((m : ℕ) (x : Block) (z : ℕ) → m ≤ 256 → HoldsB (now (nodes .entry)) (now (s .entry)) m 1 i x z → ListDone m x z (link .linked) (link .number) (link .next .0) c (lent (now (instrs .entry)) (now (numbers .entry)) (now (strings .entry)) (now (pool .entry)) (now (names .entry))) (lent (now (instrs .exit)) (now (numbers .exit)) (now (strings .exit)) (now (pool .exit)) (now (names .exit))) (now (sections .entry)) (now (sections .exit)) r z (link .number + width x)) ⌝ }
+    requires { ⌜ ListReady (now s) (now nodes) i 1 depth (link .number .0) c (length (now instrs)) (length (now numbers)) (length (now strings)) (length (now pool)) (length (now names)) (length (now sections)) ⌝ }
+    ensures { λ r. ⌜ ((m : ℕ) (x : Block) (z : ℕ) → m ≤ 256 → HoldsB (now (nodes .entry)) (now (s .entry)) m 1 i x z → ListDone m x z (link .linked) (link .number .0) (link .next .0) c (lent (now (instrs .entry)) (now (numbers .entry)) (now (strings .entry)) (now (pool .entry)) (now (names .entry))) (lent (now (instrs .exit)) (now (numbers .exit)) (now (strings .exit)) (now (pool .exit)) (now (names .exit))) (now (sections .entry)) (now (sections .exit)) r z (link .number .0 + width x)) ⌝ }
 {
     let d = codegen_from_own(
         s,
@@ -156,8 +157,8 @@ pub fn codegen_from_inside(
     link: Link,
     c: Counters,
 ) -> Counters
-    requires { ⌜ InsideReady (now s) (now nodes) i depth (link .number) c (length (now instrs)) (length (now numbers)) (length (now strings)) (length (now pool)) (length (now names)) (length (now sections)) ⌝ }
-    ensures { λ r. ⌜ ((m : ℕ) (x : Block) (z : ℕ) → m ≤ 256 → HoldsB (now (nodes .entry)) (now (s .entry)) m 1 i x z → InsideDone m x (link .linked) (link .number) (link .next .0) c (lent (now (instrs .entry)) (now (numbers .entry)) (now (strings .entry)) (now (pool .entry)) (now (names .entry))) (lent (now (instrs .exit)) (now (numbers .exit)) (now (strings .exit)) (now (pool .exit)) (now (names .exit))) (now (sections .entry)) (now (sections .exit)) r) ⌝ }
+    requires { ⌜ InsideReady (now s) (now nodes) i depth (link .number .0) c (length (now instrs)) (length (now numbers)) (length (now strings)) (length (now pool)) (length (now names)) (length (now sections)) ⌝ }
+    ensures { λ r. ⌜ ((m : ℕ) (x : Block) (z : ℕ) → m ≤ 256 → HoldsB (now (nodes .entry)) (now (s .entry)) m 1 i x z → InsideDone m x (link .linked) (link .number .0) (link .next .0) c (lent (now (instrs .entry)) (now (numbers .entry)) (now (strings .entry)) (now (pool .entry)) (now (names .entry))) (lent (now (instrs .exit)) (now (numbers .exit)) (now (strings .exit)) (now (pool .exit)) (now (names .exit))) (now (sections .entry)) (now (sections .exit)) r) ⌝ }
 {
     let w = nodes[i];
     if w % KINDS != ITE {
@@ -165,10 +166,11 @@ pub fn codegen_from_inside(
     }
     let h = i + 1;
     let p = w / POS % POSITIONS;
+    let number = Section(link.number.0 + 1);
     let next = link.next;
     let inner = Link {
         linked: link.linked,
-        number: link.number + 1,
+        number,
         next,
     };
     let node = (nodes[h] / LAST) as usize;
@@ -211,11 +213,11 @@ fn codegen_from_lists(
     w: u16,
     c: Counters,
 ) -> Counters
-    requires { ⌜ IteReady (now s) (now nodes) i a b depth (link .number) v w c (length (now instrs)) (length (now numbers)) (length (now strings)) (length (now pool)) (length (now names)) (length (now sections)) ⌝ }
-    ensures { λ r. ⌜ ((m : ℕ) (x y : Block) (j z : ℕ) → m ≤ 256 → HoldsB (now (nodes .entry)) (now (s .entry)) m a i x j → HoldsB (now (nodes .entry)) (now (s .entry)) m b j y z → IteDone m x y (link .linked) (link .number) v w (link .next .0) c (lent (now (instrs .entry)) (now (numbers .entry)) (now (strings .entry)) (now (pool .entry)) (now (names .entry))) (lent (now (instrs .exit)) (now (numbers .exit)) (now (strings .exit)) (now (pool .exit)) (now (names .exit))) (now (sections .entry)) (now (sections .exit)) r) ⌝ }
+    requires { ⌜ IteReady (now s) (now nodes) i a b depth (link .number .0) v w c (length (now instrs)) (length (now numbers)) (length (now strings)) (length (now pool)) (length (now names)) (length (now sections)) ⌝ }
+    ensures { λ r. ⌜ ((m : ℕ) (x y : Block) (j z : ℕ) → m ≤ 256 → HoldsB (now (nodes .entry)) (now (s .entry)) m a i x j → HoldsB (now (nodes .entry)) (now (s .entry)) m b j y z → IteDone m x y (link .linked) (link .number .0) v w (link .next .0) c (lent (now (instrs .entry)) (now (numbers .entry)) (now (strings .entry)) (now (pool .entry)) (now (names .entry))) (lent (now (instrs .exit)) (now (numbers .exit)) (now (strings .exit)) (now (pool .exit)) (now (names .exit))) (now (sections .entry)) (now (sections .exit)) r) ⌝ }
 {
-    let other = link.number + v;
-    let join = other + w;
+    let other = Section(link.number.0 + v);
+    let join = Section(other.0 + w);
     let d = depth - 1;
     let t = codegen_from_branch(
         s,
@@ -230,7 +232,7 @@ fn codegen_from_lists(
         a,
         d,
         link.number,
-        Section(join),
+        join,
         c,
     );
     let e = codegen_from_branch(
@@ -246,7 +248,7 @@ fn codegen_from_lists(
         b,
         d,
         other,
-        Section(join),
+        join,
         t.next,
     );
     let r = e.next;
@@ -274,12 +276,12 @@ fn codegen_from_branch(
     i: usize,
     count: usize,
     depth: usize,
-    number: u16,
+    number: Section,
     join: Section,
     c: Counters,
 ) -> Ended
-    requires { ⌜ BranchReady (now s) (now nodes) i count depth number c (length (now instrs)) (length (now numbers)) (length (now strings)) (length (now pool)) (length (now names)) (length (now sections)) × (count < 64) ⌝ }
-    ensures { λ r. ⌜ ((m : ℕ) (x : Block) (z : ℕ) → m ≤ 256 → HoldsB (now (nodes .entry)) (now (s .entry)) m count i x z → BranchDone m x z number (join .0) c (lent (now (instrs .entry)) (now (numbers .entry)) (now (strings .entry)) (now (pool .entry)) (now (names .entry))) (lent (now (instrs .exit)) (now (numbers .exit)) (now (strings .exit)) (now (pool .exit)) (now (names .exit))) (now (sections .entry)) (now (sections .exit)) (r .next) (r .node)) ⌝ }
+    requires { ⌜ BranchReady (now s) (now nodes) i count depth (number .0) c (length (now instrs)) (length (now numbers)) (length (now strings)) (length (now pool)) (length (now names)) (length (now sections)) × (count < 64) ⌝ }
+    ensures { λ r. ⌜ ((m : ℕ) (x : Block) (z : ℕ) → m ≤ 256 → HoldsB (now (nodes .entry)) (now (s .entry)) m count i x z → BranchDone m x z (number .0) (join .0) c (lent (now (instrs .entry)) (now (numbers .entry)) (now (strings .entry)) (now (pool .entry)) (now (names .entry))) (lent (now (instrs .exit)) (now (numbers .exit)) (now (strings .exit)) (now (pool .exit)) (now (names .exit))) (now (sections .entry)) (now (sections .exit)) (r .next) (r .node)) ⌝ }
 {
     if count == 0 {
         put_section(
@@ -290,10 +292,11 @@ fn codegen_from_branch(
             c.at,
             c.at,
         );
+        let behind = Section(number.0 + 1);
         return Ended {
             next: c,
             node: i,
-            number: number + 1,
+            number: behind,
         };
     }
     let link = Link {
@@ -334,8 +337,8 @@ pub fn codegen_and_link_stmts(
     link: Link,
     c: Counters,
 ) -> Ended
-    requires { ⌜ ListReady (now s) (now nodes) i count depth (link .number) c (length (now instrs)) (length (now numbers)) (length (now strings)) (length (now pool)) (length (now names)) (length (now sections)) ⌝ }
-    ensures { λ r. ⌜ ((m : ℕ) (x : Block) (z : ℕ) → m ≤ 256 → HoldsB (now (nodes .entry)) (now (s .entry)) m count i x z → ListDone m x z (link .linked) (link .number) (link .next .0) c (lent (now (instrs .entry)) (now (numbers .entry)) (now (strings .entry)) (now (pool .entry)) (now (names .entry))) (lent (now (instrs .exit)) (now (numbers .exit)) (now (strings .exit)) (now (pool .exit)) (now (names .exit))) (now (sections .entry)) (now (sections .exit)) (r .next) (r .node) (r .number)) ⌝ }
+    requires { ⌜ ListReady (now s) (now nodes) i count depth (link .number .0) c (length (now instrs)) (length (now numbers)) (length (now strings)) (length (now pool)) (length (now names)) (length (now sections)) ⌝ }
+    ensures { λ r. ⌜ ((m : ℕ) (x : Block) (z : ℕ) → m ≤ 256 → HoldsB (now (nodes .entry)) (now (s .entry)) m count i x z → ListDone m x z (link .linked) (link .number .0) (link .next .0) c (lent (now (instrs .entry)) (now (numbers .entry)) (now (strings .entry)) (now (pool .entry)) (now (names .entry))) (lent (now (instrs .exit)) (now (numbers .exit)) (now (strings .exit)) (now (pool .exit)) (now (names .exit))) (now (sections .entry)) (now (sections .exit)) (r .next) (r .node) (r .number .0)) ⌝ }
 {
     let mut d = c;
     let mut node = i;
@@ -361,9 +364,10 @@ pub fn codegen_and_link_stmts(
         here = rest_link(w, here);
         left -= 1;
     }
+    let number = here.number;
     Ended {
         next: d,
         node,
-        number: here.number,
+        number,
     }
 }

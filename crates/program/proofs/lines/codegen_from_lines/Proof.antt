@@ -7,18 +7,17 @@ use Rattle.codegen.specs.Does.{lent}
 use Rattle.stmts.specs.Lists.{SameLengths}
 use Rattle.program.specs.Script.{LinesMid}
 use Rattle.program.proofs.Script.{lines-begin, lines-on, lines-end, lines-count, line-held, same-counts}
-use Rattle.program.proofs.Runs.{deep-nodes}
 use Rattle.program.proofs.lines.codegen_from_lines.Statement.{statement}
 use Rattle.program.proofs.lines.codegen_from_lines.Tie as tie
 
 abbrev Inv-loop : tie.InvT-loop
-Inv-loop s nodes lines sections₀ instrs₀ numbers₀ strings₀ pool₀ names₀ count number head done₀ k₀ sections instrs numbers strings pool names done k =
+Inv-loop s nodes lines sections₀ instrs₀ numbers₀ strings₀ pool₀ names₀ count head done₀ k₀ sections instrs numbers strings pool names done k =
     SameLengths (lent instrs₀ numbers₀ strings₀ pool₀ names₀) (lent instrs numbers strings pool names) sections₀ sections
     × ((k ≤ count)
-    × LinesMid s nodes lines count (done₀ .number) (done₀ .head) (done₀ .next) (lent instrs₀ numbers₀ strings₀ pool₀ names₀) sections₀ k (done .number) (done .head) (done .next) (lent instrs numbers strings pool names) sections)
+    × LinesMid s nodes lines count (done₀ .number .0) (done₀ .head) (done₀ .next) (lent instrs₀ numbers₀ strings₀ pool₀ names₀) sections₀ k (done .number .0) (done .head) (done .next) (lent instrs numbers strings pool names) sections)
 
 abbrev μ-loop : tie.MeasureT-loop
-μ-loop s nodes lines sections₀ instrs₀ numbers₀ strings₀ pool₀ names₀ count number head done₀ k₀ sections instrs numbers strings pool names done k = count - k
+μ-loop s nodes lines sections₀ instrs₀ numbers₀ strings₀ pool₀ names₀ count head done₀ k₀ sections instrs numbers strings pool names done k = count - k
 
 loop-holds : tie.Need-loop-holds Inv-loop μ-loop
 loop-holds c = (record { instrs = refl; numbers = refl; strings = refl; pool = refl; names = refl; sections = refl }, (omega arith, lines-begin (c .before .before .before .before .before .before .before .before .pre)))
@@ -29,8 +28,8 @@ mul-w c = omega (arith, c .loop-test .taken, c .before .before .before .before .
 shared-slice-read-w : tie.Need-shared-slice-read-w Inv-loop μ-loop
 shared-slice-read-w c = omega (arith, c .before .loop-test .taken, c .before .before .before .before .before .before .before .before .before .before .before .pre .words)
 
-cast-codegen-from-line : tie.Need-cast-codegen-from-line Inv-loop μ-loop
-cast-codegen-from-line c = omega (arith, c .before .before .before .before .before .before .before .before .loop-test .taken, c .before .before .before .before .before .before .before .before .before .before .before .before .before .before .before .before .before .before .pre .few-lines)
+cast-t36 : tie.Need-cast-t36 Inv-loop μ-loop
+cast-t36 c = omega (arith, c .before .before .before .before .before .before .before .before .loop-test .taken, c .before .before .before .before .before .before .before .before .before .before .before .before .before .before .before .before .before .before .pre .few-lines)
 
 next-line-requires : tie.Need-next-line-requires Inv-loop μ-loop
 next-line-requires c κs = omega (arith, c .before .before .before .before .before .before .before .before .loop-test .taken, c .before .before .before .before .before .before .before .before .before .before .before .before .before .before .before .before .before .before .pre .few-lines)
@@ -51,7 +50,7 @@ codegen-from-line-requires c κs =
       inside = omega (arith, p .inside, lh .ends);
       short = p .short;
       few = p .few;
-      shallow = omega (arith, deep-nodes (lh .block), p .few-nodes, lh .sum);
+      shallow = omega (arith, p .shallow, lh .sum .first-deep);
       ample = omega (arith, p .ample, lh .sum, sc);
       behind = omega (arith, p .behind, lh .sum, sc);
       slot = omega (arith, lh .more, p .first-lines, p .ample);
@@ -92,4 +91,4 @@ returns : tie.Need-returns Inv-loop μ-loop
 returns c = let i = c .before .loop .inv in λ m bs x z a h. lines-end (i .1 .1) (omega (arith, i .1 .0, c .loop-test .left)) a h
 
 pub codegen-from-lines-spec : {M : Type 1} → statement M
-codegen-from-lines-spec = tie.close (tie.spec Inv-loop μ-loop loop-holds mul-w shared-slice-read-w cast-codegen-from-line next-line-requires aimed-at-requires codegen-from-line-requires add-k loop-less loop-again same-length same-length-2 same-length-3 same-length-4 same-length-5 same-length-6 returns)
+codegen-from-lines-spec = tie.close (tie.spec Inv-loop μ-loop loop-holds mul-w shared-slice-read-w cast-t36 next-line-requires aimed-at-requires codegen-from-line-requires add-k loop-less loop-again same-length same-length-2 same-length-3 same-length-4 same-length-5 same-length-6 returns)

@@ -35,8 +35,8 @@ head-costs-requires c κs =
     record { file = c .before .before .before .before .before .before .before .before .before .before .before .before .args .s .now; known = length (p .tree .names); blocks = p .tree .lines; first = 0; last = p .last; held = held; inside = p .inside; small = omega arith; short = p .short; few = few; words = p .line-words; few-nodes = p .few-nodes }
 
 -- src/program.rt:61:9
-cast-codegen-from-lines : tie.Need-cast-codegen-from-lines
-cast-codegen-from-lines c =
+cast-t33 : tie.Need-cast-t33
+cast-t33 c =
     let fl = c .before .before .before .before .before .before .before .before .before .before .before .before .before .before .before .before .before .before .before .pre .few-lines in omega arith
 
 -- src/program.rt:49:9
@@ -64,7 +64,7 @@ codegen-from-lines-requires c κs =
     let sm = p .small in
     let hc = c .before .before .before .before .before .before .head-costs .ensures _ _ _ _ _ (p .short) few held in
     let kn = c .before .before .before .before .before .before .before .before .before .clear-names .kept .0 in
-    record { known = length (p .tree .names); blocks = p .tree .lines; first = 0; last = p .last; held = held; inside = p .inside; short = p .short; few = few; words = p .line-words; few-lines = p .few-lines; few-nodes = p .few-nodes; ample = record { room = omega arith; strings = omega arith; strings-fit = omega arith; chars = omega arith; chars-fit = omega arith; names = omega arith; sections = omega arith; sections-fit = omega arith; small = omega arith }; behind = omega arith; first-lines = omega arith }
+    record { known = length (p .tree .names); blocks = p .tree .lines; first = 0; last = p .last; held = held; inside = p .inside; short = p .short; few = few; words = p .line-words; few-lines = p .few-lines; shallow = p .shallow; ample = record { room = omega arith; strings = omega arith; strings-fit = omega arith; chars = omega arith; chars-fit = omega arith; names = omega arith; sections = omega arith; sections-fit = omega arith; small = omega arith }; behind = omega arith; first-lines = omega arith }
 
 -- src/program.rt:65:5
 protect-names-requires : tie.Need-protect-names-requires
@@ -161,7 +161,7 @@ codegen-from-program-spec =
     (tie.spec
     clear-names-requires
     head-costs-requires
-    cast-codegen-from-lines
+    cast-t33
     codegen-from-lines-requires
     protect-names-requires
     cast-t19

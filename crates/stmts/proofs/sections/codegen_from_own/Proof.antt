@@ -163,21 +163,6 @@ returns-3 c =
 cast-v : tie.Need-cast-v
 cast-v c = search needs
 
-add-first : tie.Need-add-first
-add-first c =
-    let p = c .before .before .before .before .before .before .before .before .before .before .before .before .before .pre .list in
-    let am = p .ample in
-    let ins = p .inside in
-    let sl = c .before .before .before .before .before .before .before .before .before .before .before .before .before .pre .placed in
-    let kd = else-ite (p .held) (c .before .before .before .if1 .left) (c .before .before .if2 .left) (c .before .if3 .left) in
-    let it = ite-at (p .short) (p .few) (p .held) kd in
-    let sm = ite-sum (it .e) (it .yes) (it .no) _ (it .is) in
-    let i1 = it .first in
-    let i2 = it .second in
-    let i3 = it .third in
-    let w1 = it .width-then in
-    omega arith
-
 add-t64 : tie.Need-add-t64
 add-t64 c =
     let p = c .before .before .before .before .before .before .before .before .before .before .before .before .before .pre .list in
@@ -193,13 +178,28 @@ add-t64 c =
     let w1 = it .width-then in
     omega arith
 
-codegen-from-test-requires : tie.Need-codegen-from-test-requires
-codegen-from-test-requires c κs =
-    let p = c .before .before .before .before .before .before .before .before .before .before .before .before .before .before .before .before .before .before .before .pre .list in
+add-t64-2 : tie.Need-add-t64-2
+add-t64-2 c =
+    let p = c .before .before .before .before .before .before .before .before .before .before .before .before .before .before .pre .list in
     let am = p .ample in
     let ins = p .inside in
-    let sl = c .before .before .before .before .before .before .before .before .before .before .before .before .before .before .before .before .before .before .before .pre .placed in
-    let kd = else-ite (p .held) (c .before .before .before .before .before .before .before .before .before .if1 .left) (c .before .before .before .before .before .before .before .before .if2 .left) (c .before .before .before .before .before .before .before .if3 .left) in
+    let sl = c .before .before .before .before .before .before .before .before .before .before .before .before .before .before .pre .placed in
+    let kd = else-ite (p .held) (c .before .before .before .before .if1 .left) (c .before .before .before .if2 .left) (c .before .before .if3 .left) in
+    let it = ite-at (p .short) (p .few) (p .held) kd in
+    let sm = ite-sum (it .e) (it .yes) (it .no) _ (it .is) in
+    let i1 = it .first in
+    let i2 = it .second in
+    let i3 = it .third in
+    let w1 = it .width-then in
+    omega arith
+
+codegen-from-test-requires : tie.Need-codegen-from-test-requires
+codegen-from-test-requires c κs =
+    let p = c .before .before .before .before .before .before .before .before .before .before .before .before .before .before .before .before .before .before .before .before .pre .list in
+    let am = p .ample in
+    let ins = p .inside in
+    let sl = c .before .before .before .before .before .before .before .before .before .before .before .before .before .before .before .before .before .before .before .before .pre .placed in
+    let kd = else-ite (p .held) (c .before .before .before .before .before .before .before .before .before .before .if1 .left) (c .before .before .before .before .before .before .before .before .before .if2 .left) (c .before .before .before .before .before .before .before .before .if3 .left) in
     let it = ite-at (p .short) (p .few) (p .held) kd in
     let sm = ite-sum (it .e) (it .yes) (it .no) _ (it .is) in
     let i1 = it .first in
@@ -230,8 +230,8 @@ returns-4 : tie.Need-returns-4
 unfolding ownCost bare ofBlock statementS node both none
 returns-4 c =
     λ m x z h q.
-    let p = c .before .before .before .before .before .before .before .before .before .before .before .before .before .before .before .before .before .before .before .before .before .before .before .before .before .before .before .before .before .before .before .pre .list in
-    let it = ite-at (p .short) h q (else-ite q (c .before .before .before .before .before .before .before .before .before .before .before .before .before .before .before .before .before .before .before .before .before .if1 .left) (c .before .before .before .before .before .before .before .before .before .before .before .before .before .before .before .before .before .before .before .before .if2 .left) (c .before .before .before .before .before .before .before .before .before .before .before .before .before .before .before .before .before .before .before .if3 .left)) in
+    let p = c .before .before .before .before .before .before .before .before .before .before .before .before .before .before .before .before .before .before .before .before .before .before .before .before .before .before .before .before .before .before .before .before .pre .list in
+    let it = ite-at (p .short) h q (else-ite q (c .before .before .before .before .before .before .before .before .before .before .before .before .before .before .before .before .before .before .before .before .before .before .if1 .left) (c .before .before .before .before .before .before .before .before .before .before .before .before .before .before .before .before .before .before .before .before .before .if2 .left) (c .before .before .before .before .before .before .before .before .before .before .before .before .before .before .before .before .before .before .before .before .if3 .left)) in
     let r = c .before .before .before .before .before .before .before .before .before .before .before .codegen-from-test .ensures m _ _ h (it .test) in
     let s = r .1 in
     let k = expr-most (it .e) in
@@ -240,7 +240,7 @@ returns-4 c =
     let jm = jump-cost-most (isEnd (it .yes)) in
     rw (it .is)
     (record {
-      does = owns-ite (it .e) (it .yes) (it .no) (add-one _) (empty-same (it .then-held)) (ap (λ (k : ℕ). c .before .before .before .before .before .before .before .before .before .before .before .before .before .before .before .before .before .before .before .before .before .before .before .before .before .before .before .before .before .before .before .args .link .number + 1 + k) (it .width-then)) (r .0);
+      does = owns-ite (it .e) (it .yes) (it .no) (add-one _) (empty-same (it .then-held)) (ap (λ (k : ℕ). c .before .before .before .before .before .before .before .before .before .before .before .before .before .before .before .before .before .before .before .before .before .before .before .before .before .before .before .before .before .before .before .before .args .link .number .0 + 1 + k) (it .width-then)) (r .0);
       cost = omega (arith, s .at, jc);
       spent = record { at = omega (arith, s .at, jc, jm, k); numbers = omega arith; values = omega arith; strings = omega arith; chars = omega arith };
     })
@@ -274,8 +274,8 @@ codegen-from-own-spec =
     same-length-15
     returns-3
     cast-v
-    add-first
     add-t64
+    add-t64-2
     codegen-from-test-requires
     same-length-16
     same-length-17

@@ -162,7 +162,7 @@ abbrev codegen-and-link-stmts-Inv-loop : codegen-and-link-stmts-lts.InvT-loop
 codegen-and-link-stmts-Inv-loop s nodes sections₀ instrs₀ numbers₀ strings₀ pool₀ names₀ i count depth d₀ node₀ here₀ left₀ sections instrs numbers strings pool names d node here left =
     SameLengths (lent instrs₀ numbers₀ strings₀ pool₀ names₀) (lent instrs numbers strings pool names) sections₀ sections
     × ((here .next .0 ≡ here₀ .next .0)
-    × ListMid s nodes i count depth (here₀ .linked) (here₀ .number) (here₀ .next .0) d₀ (lent instrs₀ numbers₀ strings₀ pool₀ names₀) sections₀ node left (here .linked) (here .number) d (lent instrs numbers strings pool names) sections)
+    × ListMid s nodes i count depth (here₀ .linked) (here₀ .number .0) (here₀ .next .0) d₀ (lent instrs₀ numbers₀ strings₀ pool₀ names₀) sections₀ node left (here .linked) (here .number .0) d (lent instrs numbers strings pool names) sections)
 
 abbrev codegen-and-link-stmts-μ-loop : codegen-and-link-stmts-lts.MeasureT-loop
 codegen-and-link-stmts-μ-loop s nodes sections₀ instrs₀ numbers₀ strings₀ pool₀ names₀ i count depth d₀ node₀ here₀ left₀ sections instrs numbers strings pool names d node here left = left
@@ -218,31 +218,31 @@ codegen-and-link-stmts-loop-again t c =
 
 codegen-and-link-stmts-same-length : (t : ℕ) → codegen-and-link-stmts-lts.Need-same-length (claims-codegen-and-link-stmts t) (codegen-and-link-stmts-at t) codegen-and-link-stmts.Post codegen-and-link-stmts-Inv-loop codegen-and-link-stmts-μ-loop
 codegen-and-link-stmts-same-length t c =
-    c .before .loop .inv .0 .sections
+    c .before .before .loop .inv .0 .sections
 
 codegen-and-link-stmts-same-length-2 : (t : ℕ) → codegen-and-link-stmts-lts.Need-same-length-2 (claims-codegen-and-link-stmts t) (codegen-and-link-stmts-at t) codegen-and-link-stmts.Post codegen-and-link-stmts-Inv-loop codegen-and-link-stmts-μ-loop
 codegen-and-link-stmts-same-length-2 t c =
-    c .before .loop .inv .0 .instrs
+    c .before .before .loop .inv .0 .instrs
 
 codegen-and-link-stmts-same-length-3 : (t : ℕ) → codegen-and-link-stmts-lts.Need-same-length-3 (claims-codegen-and-link-stmts t) (codegen-and-link-stmts-at t) codegen-and-link-stmts.Post codegen-and-link-stmts-Inv-loop codegen-and-link-stmts-μ-loop
 codegen-and-link-stmts-same-length-3 t c =
-    c .before .loop .inv .0 .numbers
+    c .before .before .loop .inv .0 .numbers
 
 codegen-and-link-stmts-same-length-4 : (t : ℕ) → codegen-and-link-stmts-lts.Need-same-length-4 (claims-codegen-and-link-stmts t) (codegen-and-link-stmts-at t) codegen-and-link-stmts.Post codegen-and-link-stmts-Inv-loop codegen-and-link-stmts-μ-loop
 codegen-and-link-stmts-same-length-4 t c =
-    c .before .loop .inv .0 .strings
+    c .before .before .loop .inv .0 .strings
 
 codegen-and-link-stmts-same-length-5 : (t : ℕ) → codegen-and-link-stmts-lts.Need-same-length-5 (claims-codegen-and-link-stmts t) (codegen-and-link-stmts-at t) codegen-and-link-stmts.Post codegen-and-link-stmts-Inv-loop codegen-and-link-stmts-μ-loop
 codegen-and-link-stmts-same-length-5 t c =
-    c .before .loop .inv .0 .pool
+    c .before .before .loop .inv .0 .pool
 
 codegen-and-link-stmts-same-length-6 : (t : ℕ) → codegen-and-link-stmts-lts.Need-same-length-6 (claims-codegen-and-link-stmts t) (codegen-and-link-stmts-at t) codegen-and-link-stmts.Post codegen-and-link-stmts-Inv-loop codegen-and-link-stmts-μ-loop
 codegen-and-link-stmts-same-length-6 t c =
-    c .before .loop .inv .0 .names
+    c .before .before .loop .inv .0 .names
 
 codegen-and-link-stmts-returns : (t : ℕ) → codegen-and-link-stmts-lts.Need-returns (claims-codegen-and-link-stmts t) (codegen-and-link-stmts-at t) codegen-and-link-stmts.Post codegen-and-link-stmts-Inv-loop codegen-and-link-stmts-μ-loop
 codegen-and-link-stmts-returns t c =
-    λ m x z h q. list-end (c .before .loop .inv .1 .1) (c .loop-test .left) h q
+    λ m x z h q. list-end (c .before .before .loop .inv .1 .1) (c .before .loop-test .left) h q
 
 codegen-from-branch-put-section-requires : (t : ℕ) → codegen-from-branch-lts.Need-put-section-requires (claims-codegen-from-branch t) (codegen-from-branch-at t) codegen-from-branch.Post
 codegen-from-branch-put-section-requires t c κs =
@@ -251,23 +251,23 @@ codegen-from-branch-put-section-requires t c κs =
     let o = or-one (width (p .block)) .some in
     (omega arith, omega arith, omega arith)
 
-codegen-from-branch-add-t21 : (t : ℕ) → codegen-from-branch-lts.Need-add-t21 (claims-codegen-from-branch t) (codegen-from-branch-at t) codegen-from-branch.Post
-codegen-from-branch-add-t21 t c =
-    let p = c .before .before .before .before .before .before .before .before .before .before .before .before .pre .1 .0 in
+codegen-from-branch-add-t22 : (t : ℕ) → codegen-from-branch-lts.Need-add-t22 (claims-codegen-from-branch t) (codegen-from-branch-at t) codegen-from-branch.Post
+codegen-from-branch-add-t22 t c =
+    let p = c .before .before .before .before .before .before .before .before .before .before .before .before .before .pre .1 .0 in
     let am = p .ample in
     let o = or-one (width (p .block)) .some in
     omega arith
 
 codegen-from-branch-same-length : (t : ℕ) → codegen-from-branch-lts.Need-same-length (claims-codegen-from-branch t) (codegen-from-branch-at t) codegen-from-branch.Post
 codegen-from-branch-same-length t c =
-    c .before .before .put-section .kept .0
+    c .before .before .before .put-section .kept .0
 
 codegen-from-branch-returns : (t : ℕ) → codegen-from-branch-lts.Need-returns (claims-codegen-from-branch t) (codegen-from-branch-at t) codegen-from-branch.Post
 unfolding ofBlock none
 codegen-from-branch-returns t c =
     λ m x z h q.
-    let e = is-end q (c .before .before .before .before .if1 .taken) in
-    rw (e .is) (record { does = branch-empty (stored-empty (c .before .before .put-section .ensures) refl); spent = record { at = omega arith; numbers = omega arith; values = omega arith; strings = omega arith; chars = omega arith }; node-is = e .here })
+    let e = is-end q (c .before .before .before .before .before .if1 .taken) in
+    rw (e .is) (record { does = branch-empty (stored-empty (c .before .before .before .put-section .ensures) refl); spent = record { at = omega arith; numbers = omega arith; values = omega arith; strings = omega arith; chars = omega arith }; node-is = e .here })
 
 codegen-from-branch-codegen-and-link-stmts-requires : (t : ℕ) → codegen-from-branch-lts.Need-codegen-and-link-stmts-requires (claims-codegen-from-branch t) (codegen-from-branch-at t) codegen-from-branch.Post
 codegen-from-branch-codegen-and-link-stmts-requires t c κs =
@@ -353,9 +353,9 @@ codegen-from-inside-add-h t c =
 
 codegen-from-inside-add-codegen-from-lists : (t : ℕ) → codegen-from-inside-lts.Need-add-codegen-from-lists (claims-codegen-from-inside t) (codegen-from-inside-at t) codegen-from-inside.Post
 codegen-from-inside-add-codegen-from-lists t c =
-    let p = c .before .before .before .before .before .before .before .before .before .before .before .pre .1 in
+    let p = c .before .before .before .before .before .before .before .before .before .before .pre .1 in
     let am = p .ample in
-    let kd = c .before .before .if1 .left in
+    let kd = c .before .if1 .left in
     let it = ite-at (p .short) (p .few) (p .held) kd in
     let sm = ite-sum (it .e) (it .yes) (it .no) _ (it .is) in
     let i1 = it .first in
@@ -364,7 +364,7 @@ codegen-from-inside-add-codegen-from-lists t c =
     let ins = p .inside in
     let w1 = it .width-then in
     let w2 = it .width-else in
-    let d = c .before .before .before .before .before .before .before .before .before .before .before .good .1 .0 in
+    let d = c .before .before .before .before .before .before .before .before .before .before .good .1 .0 in
     omega arith
 
 codegen-from-inside-mul-node : (t : ℕ) → codegen-from-inside-lts.Need-mul-node (claims-codegen-from-inside t) (codegen-from-inside-at t) codegen-from-inside.Post
@@ -452,25 +452,25 @@ codegen-from-inside-returns-2 t c =
     let ls = c .before .before .before .before .before .before .before .before .before .before .before .codegen-from-lists .ensures m _ _ _ _ h (it .then-held) (it .else-held) in
     rw (it .is)
     (record {
-      does = inside-ite (it .e) (it .yes) (it .no) (add-one _) (ap (λ (k : ℕ). c .before .before .before .before .before .before .before .before .before .before .before .before .before .before .before .before .before .before .before .before .before .before .before .before .before .before .before .before .before .before .args .link .number + 1 + k) (it .width-then)) (ap (λ (k : ℕ). c .before .before .before .before .before .before .before .before .before .before .before .before .before .before .before .before .before .before .before .before .before .before .before .before .before .before .before .before .before .before .args .link .number + 1 + getD (c .before .before .before .before .before .before .before .before .before .before .before .before .before .before .before .before .before .before .before .before .before .before .before .before .before .before .before .before .before .before .args .nodes .now) (c .before .before .before .before .before .before .before .before .before .before .before .before .before .before .before .before .before .before .before .before .before .before .before .before .before .before .before .before .before .before .args .i) 0 / 34359738368 % 8192 + k) (it .width-else)) (ls .yes) (ls .no) (ls .join);
+      does = inside-ite (it .e) (it .yes) (it .no) (add-one _) (ap (λ (k : ℕ). c .before .before .before .before .before .before .before .before .before .before .before .before .before .before .before .before .before .before .before .before .before .before .before .before .before .before .before .before .before .before .args .link .number .0 + 1 + k) (it .width-then)) (ap (λ (k : ℕ). c .before .before .before .before .before .before .before .before .before .before .before .before .before .before .before .before .before .before .before .before .before .before .before .before .before .before .before .before .before .before .args .link .number .0 + 1 + getD (c .before .before .before .before .before .before .before .before .before .before .before .before .before .before .before .before .before .before .before .before .before .before .before .before .before .before .before .before .before .before .args .nodes .now) (c .before .before .before .before .before .before .before .before .before .before .before .before .before .before .before .before .before .before .before .before .before .before .before .before .before .before .before .before .before .before .args .i) 0 / 34359738368 % 8192 + k) (it .width-else)) (ls .yes) (ls .no) (ls .join);
       spent = ls .spent;
     })
 
-codegen-from-lists-add-other : (t : ℕ) → codegen-from-lists-lts.Need-add-other (claims-codegen-from-lists t) (codegen-from-lists-at t) codegen-from-lists.Post
-codegen-from-lists-add-other t c =
+codegen-from-lists-add-t25 : (t : ℕ) → codegen-from-lists-lts.Need-add-t25 (claims-codegen-from-lists t) (codegen-from-lists-at t) codegen-from-lists.Post
+codegen-from-lists-add-t25 t c =
     let p = c .before .before .before .before .before .before .before .before .pre .1 in
     let am = p .ample in
     omega arith
 
-codegen-from-lists-add-join : (t : ℕ) → codegen-from-lists-lts.Need-add-join (claims-codegen-from-lists t) (codegen-from-lists-at t) codegen-from-lists.Post
-codegen-from-lists-add-join t c =
-    let p = c .before .before .before .before .before .before .before .before .pre .1 in
+codegen-from-lists-add-t25-2 : (t : ℕ) → codegen-from-lists-lts.Need-add-t25-2 (claims-codegen-from-lists t) (codegen-from-lists-at t) codegen-from-lists.Post
+codegen-from-lists-add-t25-2 t c =
+    let p = c .before .before .before .before .before .before .before .before .before .pre .1 in
     let am = p .ample in
     omega arith
 
 codegen-from-lists-sub-d : (t : ℕ) → codegen-from-lists-lts.Need-sub-d (claims-codegen-from-lists t) (codegen-from-lists-at t) codegen-from-lists.Post
 codegen-from-lists-sub-d t c =
-    let p = c .before .before .before .before .before .before .before .before .pre .1 in
+    let p = c .before .before .before .before .before .before .before .before .before .pre .1 in
     let am = p .ample in
     let sh = p .shallow-then in
     omega arith
@@ -478,9 +478,9 @@ codegen-from-lists-sub-d t c =
 codegen-from-lists-codegen-from-branch-requires : (t : ℕ) → codegen-from-lists-lts.Need-codegen-from-branch-requires (claims-codegen-from-lists t) (codegen-from-lists-at t) codegen-from-lists.Post
 unfolding both
 codegen-from-lists-codegen-from-branch-requires t c κs =
-    let p = c .before .before .before .before .before .before .before .before .before .before .before .before .before .before .pre .1 in
+    let p = c .before .before .before .before .before .before .before .before .before .before .before .before .before .before .before .pre .1 in
     let am = p .ample in
-    let m = c .before .before .before .before .before .before .before .before .before .before .before .before .before .before .pre .0 in
+    let m = c .before .before .before .before .before .before .before .before .before .before .before .before .before .before .before .pre .0 in
     let ins = p .inside in
     let g = grows-b (p .else-held) in
     let w1 = p .width-then in
@@ -494,9 +494,9 @@ codegen-from-lists-codegen-from-branch-requires t c κs =
 codegen-from-lists-codegen-from-branch-requires-2 : (t : ℕ) → codegen-from-lists-lts.Need-codegen-from-branch-requires-2 (claims-codegen-from-lists t) (codegen-from-lists-at t) codegen-from-lists.Post
 unfolding both
 codegen-from-lists-codegen-from-branch-requires-2 t c κs =
-    let p = c .before .before .before .before .before .before .before .before .before .before .before .before .before .before .before .before .before .before .before .before .before .before .before .before .before .before .before .before .before .before .before .before .pre .1 in
+    let p = c .before .before .before .before .before .before .before .before .before .before .before .before .before .before .before .before .before .before .before .before .before .before .before .before .before .before .before .before .before .before .before .before .before .pre .1 in
     let am = p .ample in
-    let m = c .before .before .before .before .before .before .before .before .before .before .before .before .before .before .before .before .before .before .before .before .before .before .before .before .before .before .before .before .before .before .before .before .pre .0 in
+    let m = c .before .before .before .before .before .before .before .before .before .before .before .before .before .before .before .before .before .before .before .before .before .before .before .before .before .before .before .before .before .before .before .before .before .pre .0 in
     let ins = p .inside in
     let g = grows-b (p .else-held) in
     let w1 = p .width-then in
@@ -522,7 +522,7 @@ codegen-from-lists-successor-requires t c κs =
 codegen-from-lists-put-section-requires : (t : ℕ) → codegen-from-lists-lts.Need-put-section-requires (claims-codegen-from-lists t) (codegen-from-lists-at t) codegen-from-lists.Post
 unfolding both
 codegen-from-lists-put-section-requires t c κs =
-    let p = c .before .before .before .before .before .before .before .before .before .before .before .before .before .before .before .before .before .before .before .before .before .before .before .before .before .before .before .before .before .before .before .before .before .before .before .before .before .before .before .before .before .before .before .before .before .before .before .before .pre .1 in
+    let p = c .before .before .before .before .before .before .before .before .before .before .before .before .before .before .before .before .before .before .before .before .before .before .before .before .before .before .before .before .before .before .before .before .before .before .before .before .before .before .before .before .before .before .before .before .before .before .before .before .before .pre .1 in
     let am = p .ample in
     let r = c .before .before .before .before .before .before .before .before .before .before .before .before .before .before .before .before .before .before .before .before .before .before .before .before .before .before .before .before .before .before .before .before .before .codegen-from-branch .ensures _ _ _ (p .few) (p .then-held) in
     let s = r .spent in
@@ -656,7 +656,7 @@ pub +codegen-and-link-stmts+codegen-from-branch+codegen-from-inside+codegen-from
     (codegen-from-branch-at t)
     codegen-from-branch.Post
     (codegen-from-branch-put-section-requires t)
-    (codegen-from-branch-add-t21 t)
+    (codegen-from-branch-add-t22 t)
     (codegen-from-branch-same-length t)
     (codegen-from-branch-returns t)
     (codegen-from-branch-codegen-and-link-stmts-requires t)
@@ -691,8 +691,8 @@ pub +codegen-and-link-stmts+codegen-from-branch+codegen-from-inside+codegen-from
     (λ t. codegen-from-lists-lts.spec (claims-codegen-from-lists t)
     (codegen-from-lists-at t)
     codegen-from-lists.Post
-    (codegen-from-lists-add-other t)
-    (codegen-from-lists-add-join t)
+    (codegen-from-lists-add-t25 t)
+    (codegen-from-lists-add-t25-2 t)
     (codegen-from-lists-sub-d t)
     (codegen-from-lists-codegen-from-branch-requires t)
     (codegen-from-lists-codegen-from-branch-requires-2 t)

@@ -19,14 +19,14 @@ made-requires : tie.Need-made-requires
 made-requires c κs = search needs
 
 -- src/stmt.rt:63:24
-add-t7 : tie.Need-add-t7
-add-t7 c = search needs
+add-t8 : tie.Need-add-t8
+add-t8 c = search needs
 
 -- src/stmt.rt:54:1
 returns-2 : tie.Need-returns-2
 unfolding entryBy
 returns-2 c =
-    (refl, (refl, rw (ne-eqb _ _ (c .before .before .if1 .left), c .before .made .ensures)))
+    (refl, (refl, rw (ne-eqb _ _ (c .before .before .before .if1 .left), c .before .made .ensures)))
 
 pub first-link-spec : {M : Type 1} → statement M
-first-link-spec = tie.close (tie.spec returns made-requires add-t7 returns-2)
+first-link-spec = tie.close (tie.spec returns made-requires add-t8 returns-2)

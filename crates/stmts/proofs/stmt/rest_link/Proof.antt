@@ -13,8 +13,8 @@ made-requires : tie.Need-made-requires
 made-requires c κs = search needs
 
 -- src/stmt.rt:78:18
-add-number : tie.Need-add-number
-add-number c = search needs
+add-t6 : tie.Need-add-t6
+add-t6 c = search needs
 
 -- src/stmt.rt:81:9
 returns : tie.Need-returns
@@ -29,4 +29,4 @@ returns-2 c =
     (rw (ne-eqb _ _ (c .if1 .left)), (rw (c .before .before .before .made .ensures), refl))
 
 pub rest-link-spec : {M : Type 1} → statement M
-rest-link-spec = tie.close (tie.spec made-requires add-number returns returns-2)
+rest-link-spec = tie.close (tie.spec made-requires add-t6 returns returns-2)
