@@ -12,7 +12,7 @@ use mathlib.Core.Option.{Option, none, some}
 use Rattle.rules.specs.Constants.{mostNodes, byteBits, charBits, nameBits}
 use Rattle.rules.specs.Refusal.{endsInField, tooDeep, tooManyNodes, unassigned, unknownName}
 use Rattle.rules.specs.Bits.{Res, refused, ok, field, spelled}
-use Rattle.rules.specs.Parse.{Reader, At, pure, refuse, demand, begin, bits, many, operator, nameOf, _>>=_}
+use Rattle.rules.specs.Parse.{Reader, At, succeed, refuse, demand, begin, bits, many, operator, nameOf, _>>=_}
 use Rattle.bits.specs.Reads.{Gives, Fine, Moved, Took, Takes, Passed, Passes, Ends, Skips, Skipped, at, belowR, beginR, fieldRes, charsAt}
 use Rattle.bits.specs.declared.Field.{Field}
 use Rattle.bits.specs.declared.Field.the-variants.{Value, Short}
@@ -21,8 +21,8 @@ use Rattle.bits.specs.declared.Step.{Step}
 use Rattle.bits.specs.declared.Step.the-variants.{Next, Refused}
 use Rattle.bits.proofs.Bits.{inside, field-in, field-out}
 
-pub done : {A : Type 0} {a : A} {s : List ℕ} {c : At} → Gives (pure a) s c (ok (a, c))
-unfolding pure
+pub done : {A : Type 0} {a : A} {s : List ℕ} {c : At} → Gives (succeed a) s c (ok (a, c))
+unfolding succeed
 done = record { is = refl }
 
 -- a step that goes on: what the rest gives, the whole gives
@@ -53,7 +53,7 @@ never {A} {x} {n} e = let z : _≡_ {A = ℕ} 0 1 = cc in omega arith
 
 -- a test that passes, and one that does not
 pub passes : (n : ℕ) {b : Bool} {s : List ℕ} {c : At} → b ≡ true → Gives (demand b n) s c (ok (tt, c))
-unfolding demand pure
+unfolding demand succeed
 passes n e = record { is = rw e }
 
 pub fails : {b : Bool} {n : ℕ} {s : List ℕ} {c : At} → b ≡ false → Gives (demand b n) s c (refused n)
@@ -173,14 +173,14 @@ pub op-in : {A : Type 0} (ops : List A) (w : ℕ) {v : ℕ} {o : A} {s : List �
 unfolding operator
 op-in {A = A} ops w {v = v} {o = o} {s = s} {d = d} g e = then _ g (chosen (getElem? ops v) e)
   where
-    chosen : (x : Option A) → x ≡ some o → Gives (elim x [ none ↦ refuse unassigned | some o ↦ pure o ]) s d (ok (o, d))
+    chosen : (x : Option A) → x ≡ some o → Gives (elim x [ none ↦ refuse unassigned | some o ↦ succeed o ]) s d (ok (o, d))
     chosen x e = rw e done
 
 pub op-out : {A : Type 0} (ops : List A) (w : ℕ) {v : ℕ} {s : List ℕ} {c d : At} → Gives (bits w) s c (ok (v, d)) → length ops ≤ v → Gives (operator w ops) s c (refused unassigned)
 unfolding operator refuse
 op-out {A = A} ops w {v = v} {s = s} {d = d} g h = then _ g (chosen (getElem? ops v) (no-more ops v h))
   where
-    chosen : (x : Option A) → x ≡ none → Gives {A = A} (elim x [ none ↦ refuse unassigned | some o ↦ pure o ]) s d (refused unassigned)
+    chosen : (x : Option A) → x ≡ none → Gives {A = A} (elim x [ none ↦ refuse unassigned | some o ↦ succeed o ]) s d (refused unassigned)
     chosen x e = rw e (record { is = refl })
 
 -- a limited field, from its bits

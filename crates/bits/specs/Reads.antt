@@ -7,7 +7,7 @@ use lib.ListN.{length}
 use Rattle.rules.specs.Constants.{mostBytes, mostNodes, mostChars, byteBits, charBits}
 use Rattle.rules.specs.Refusal.{endsInField, tooDeep}
 use Rattle.rules.specs.Bits.{Res, refused, ok, spelled, field}
-use Rattle.rules.specs.Parse.{Reader, At, pure, refuse, demand, begin, bits, many, _>>=_}
+use Rattle.rules.specs.Parse.{Reader, At, succeed, refuse, demand, begin, bits, many, _>>=_}
 use Rattle.bits.specs.declared.End.{End}
 use Rattle.bits.specs.declared.End.the-variants.{At as EndsAt, Past}
 use Rattle.bits.specs.declared.Field.{Field}
@@ -75,7 +75,7 @@ unfoldable pub belowR : ℕ → ℕ → ℕ → Reader ℕ
 belowR w limit k = do
   x ← bits w
   _ ← demand (ltb x limit) k
-  pure x
+  succeed x
 
 -- a node begins with d levels left, and its kind
 unfoldable pub beginR : ℕ → ℕ → Reader ℕ

@@ -10,7 +10,7 @@ use Rattle.rules.specs.Bits.{refused, ok}
 use Rattle.rules.specs.Refusal as Refusal
 use Rattle.rules.specs.Word.{wordSpan, spanWord}
 use Rattle.rules.specs.Machine.{Machine}
-use Rattle.rules.specs.Tables.{Tables, Counts, all, fits, countsOf}
+use Rattle.rules.specs.Tables.{Tables, Counts, allb, fits, countsOf}
 use Rattle.rules.specs.Clean.{cleaned}
 use Rattle.rules.specs.Operations.{put, write, fixedHere, jumpsFixed, cleanIn, clean}
 use Rattle.tables.specs.Runs.{fixedWord, held}
@@ -52,13 +52,13 @@ module _ (t : Tables) (u : Counts) where
   clean-12 e = change-12 t u cleanIn e
 
   module _ (h : fits t u ≡ true) where
-    lines-known : all fixedHere (take (u .lines) (machineOf t u .sections)) ≡ all fixedWord (take (u .lines) (t .sections))
+    lines-known : allb fixedHere (take (u .lines) (machineOf t u .sections)) ≡ allb fixedWord (take (u .lines) (t .sections))
     unfolding held
     lines-known =
         lines-are (u .lines) (take (u .sections) (t .sections)) (take (u .instrs) (t .instrs))
-        ∙ ap (all fixedWord) (take-take (u .lines) (u .sections) (t .sections) (sound t u h .counts .lines))
+        ∙ ap (allb fixedWord) (take-take (u .lines) (u .sections) (t .sections) (sound t u h .counts .lines))
 
-    jumps-known : all (jumpsFixed (machineOf t u .sections)) (machineOf t u .sections) ≡ all (jumpIn (t .sections) (u .sections)) (take (u .instrs) (t .instrs))
+    jumps-known : allb (jumpsFixed (machineOf t u .sections)) (machineOf t u .sections) ≡ allb (jumpIn (t .sections) (u .sections)) (take (u .instrs) (t .instrs))
     unfolding held
     jumps-known =
         let s = sound t u h in
@@ -73,12 +73,12 @@ module _ (t : Tables) (u : Counts) where
     unfolding clean
     clean-ok m e = change-ok t u cleanIn h m e
 
-    module _ (a : Bool) (a-is : a ≡ all fixedWord (take (u .lines) (t .sections))) where
+    module _ (a : Bool) (a-is : a ≡ allb fixedWord (take (u .lines) (t .sections))) where
       pub clean-lines : a ≡ false → (refused Refusal.needsUnfixed, t) ≡ clean t u
       unfolding cleanIn
       clean-lines e = clean-13 (rw (lines-known, ← a-is, e, cleanIn))
 
-      module _ (a-true : a ≡ true) (b : Bool) (b-is : b ≡ all (jumpIn (t .sections) (u .sections)) (take (u .instrs) (t .instrs))) where
+      module _ (a-true : a ≡ true) (b : Bool) (b-is : b ≡ allb (jumpIn (t .sections) (u .sections)) (take (u .instrs) (t .instrs))) where
         pub clean-jumps : b ≡ false → (refused Refusal.needsUnfixed, t) ≡ clean t u
         unfolding cleanIn
         clean-jumps e = clean-13 (rw (lines-known, ← a-is, a-true, jumps-known, ← b-is, e, cleanIn))

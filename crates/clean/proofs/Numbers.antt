@@ -14,7 +14,7 @@ use Rattle.rules.specs.Instr.{isJump}
 use Rattle.rules.specs.Constants.{mark}
 use Rattle.rules.specs.Word.{wordRun, wordIns}
 use Rattle.rules.specs.Machine.{SectionCode, isFixed, absent}
-use Rattle.rules.specs.Tables.{successOf, readSections, all}
+use Rattle.rules.specs.Tables.{successOf, readSections, allb}
 use Rattle.rules.specs.Clean.{keep, rank}
 use Rattle.rules.specs.Operations.{fixedHere, jumpFixed, jumpsFixed}
 use Rattle.tables.specs.Runs.{fixedWord, countOf, total, sectionOf}
@@ -116,21 +116,21 @@ fixed-is : (w : ℕ) (is : List ℕ) → fixedHere (sectionOf w is) ≡ fixedWor
 unfolding fixedHere fixedWord
 fixed-is w is = refl
 
-pub lines-are : (n : ℕ) (ws is : List ℕ) → all fixedHere (take n (readSections ws is)) ≡ all fixedWord (take n ws)
+pub lines-are : (n : ℕ) (ws is : List ℕ) → allb fixedHere (take n (readSections ws is)) ≡ allb fixedWord (take n ws)
 lines-are zero ws is = rw (all-nil, all-nil)
 lines-are (suc n) [] is = rw (read-nil, all-nil, all-nil)
 lines-are (suc n) (w ∷ ws) is =
     rw (read-cons, all-cons fixedHere (sectionOf w is) (take n (readSections ws (drop (countOf w) is))) (fixedWord w) (fixed-is w is), all-cons fixedWord w (take n ws) (fixedWord w) refl, lines-are n ws (drop (countOf w) is))
 
-all-append : {A : Type 0} (p : A → Bool) (xs ys : List A) → all p (xs ++ ys) ≡ cond (all p xs) (all p ys) false
+all-append : {A : Type 0} (p : A → Bool) (xs ys : List A) → allb p (xs ++ ys) ≡ cond (allb p xs) (allb p ys) false
 all-append p [] ys = rw all-nil
 all-append p (x ∷ xs) ys = by (p x) refl (all-append p xs ys)
   where
-    by : (b : Bool) → p x ≡ b → all p (xs ++ ys) ≡ cond (all p xs) (all p ys) false → all p (x ∷ (xs ++ ys)) ≡ cond (all p (x ∷ xs)) (all p ys) false
+    by : (b : Bool) → p x ≡ b → allb p (xs ++ ys) ≡ cond (allb p xs) (allb p ys) false → allb p (x ∷ (xs ++ ys)) ≡ cond (allb p (x ∷ xs)) (allb p ys) false
     by true e ih = rw (all-cons p x (xs ++ ys) true e, all-cons p x xs true e) ih
     by false e ih = rw (all-cons p x (xs ++ ys) false e, all-cons p x xs false e)
 
-all-map : {A B : Type 0} (p : B → Bool) (g : A → B) (xs : List A) → all p (map g xs) ≡ all (λ (x : A). p (g x)) xs
+all-map : {A B : Type 0} (p : B → Bool) (g : A → B) (xs : List A) → allb p (map g xs) ≡ allb (λ (x : A). p (g x)) xs
 all-map p g [] = rw (all-nil, all-nil)
 all-map {A} p g (x ∷ xs) = rw (all-cons p (g x) (map g xs) _ refl, all-cons (λ (y : A). p (g y)) x xs _ refl, all-map p g xs)
 
@@ -138,18 +138,18 @@ no-words : (is : List ℕ) → 0 ≡ length is → is ≡ []
 no-words [] h = refl
 no-words (i ∷ is) h = absurd (omega arith)
 
-code-is : (ss : List SectionCode) (w : ℕ) (is : List ℕ) → jumpsFixed ss (sectionOf w is) ≡ all (λ (w : ℕ). jumpFixed ss (wordIns w)) (take (countOf w) is)
+code-is : (ss : List SectionCode) (w : ℕ) (is : List ℕ) → jumpsFixed ss (sectionOf w is) ≡ allb (λ (w : ℕ). jumpFixed ss (wordIns w)) (take (countOf w) is)
 unfolding jumpsFixed countOf
 code-is ss w is = all-map (jumpFixed ss) wordIns (take (wordRun w .count) is)
 
-pub jumps-are : (ss : List SectionCode) (ws is : List ℕ) → total ws ≡ length is → all (jumpsFixed ss) (readSections ws is) ≡ all (λ (w : ℕ). jumpFixed ss (wordIns w)) is
+pub jumps-are : (ss : List SectionCode) (ws is : List ℕ) → total ws ≡ length is → allb (jumpsFixed ss) (readSections ws is) ≡ allb (λ (w : ℕ). jumpFixed ss (wordIns w)) is
 unfolding total
 jumps-are ss [] is h = rw (read-nil, no-words is h, all-nil, all-nil)
 jumps-are ss (w ∷ ws) is h =
     rw (read-cons, all-cons (jumpsFixed ss) (sectionOf w is) (readSections ws (drop (countOf w) is)) _ refl, jumps-are ss ws (drop (countOf w) is) (simp length-drop (omega arith)))
-    (ap (λ (b : Bool). cond b (all (λ (w : ℕ). jumpFixed ss (wordIns w)) (drop (countOf w) is)) false) (code-is ss w is)
+    (ap (λ (b : Bool). cond b (allb (λ (w : ℕ). jumpFixed ss (wordIns w)) (drop (countOf w) is)) false) (code-is ss w is)
     ∙ sym (all-append (λ (w : ℕ). jumpFixed ss (wordIns w)) (take (countOf w) is) (drop (countOf w) is))
-    ∙ ap (all (λ (w : ℕ). jumpFixed ss (wordIns w))) (take-append-drop (countOf w) is))
+    ∙ ap (allb (λ (w : ℕ). jumpFixed ss (wordIns w))) (take-append-drop (countOf w) is))
 
 -- ---- targets
 
@@ -183,6 +183,6 @@ module _ (ss is : List ℕ) (n : ℕ) (h : n ≤ length ss) where
   jump-by w true e = rw (e, jumpFixed) (fixed-by (wordIns w .fst) _ refl)
   jump-by w false e = rw (e, jumpFixed)
 
-  pub all-jumps : (xs : List ℕ) → all (λ (w : ℕ). jumpFixed (readSections (take n ss) is) (wordIns w)) xs ≡ all (jumpIn ss n) xs
+  pub all-jumps : (xs : List ℕ) → allb (λ (w : ℕ). jumpFixed (readSections (take n ss) is) (wordIns w)) xs ≡ allb (jumpIn ss n) xs
   all-jumps [] = rw (all-nil, all-nil)
   all-jumps (x ∷ xs) = rw (all-cons (λ (w : ℕ). jumpFixed (readSections (take n ss) is) (wordIns w)) x xs (jumpIn ss n x) (jump-by x _ refl), all-cons (jumpIn ss n) x xs (jumpIn ss n x) refl, all-jumps xs)

@@ -3,7 +3,7 @@
 ghost use mathlib.Core.Path.{_≡_};
 ghost use Prim.Native.Nat.{_≤_};
 ghost use lib.ListN.{length, take};
-ghost use Rattle.rules.specs.Tables.{all};
+ghost use Rattle.rules.specs.Tables.{allb};
 ghost use Rattle.rules.specs.Operations as Operations;
 ghost use Rattle.tables.specs.Lent.{countsTold, tables, answerTold};
 ghost use Rattle.clean.specs.Pass.{jumpIn};
@@ -33,7 +33,7 @@ fn jump_fixed(sections: &[u64], n: usize, w: Instruction) -> bool
 
 fn jumps_fixed(sections: &[u64], n: usize, t: &[u64], e: usize) -> bool
     requires { ⌜ (n ≤ length (now sections)) × (e ≤ length (now t)) ⌝ }
-    ensures { λ r. ⌜ r ≡ all (jumpIn (now (sections .entry)) n) (take e (now (t .entry))) ⌝ }
+    ensures { λ r. ⌜ r ≡ allb (jumpIn (now (sections .entry)) n) (take e (now (t .entry))) ⌝ }
 {
     let mut i: usize = 0;
     while i < e {

@@ -12,7 +12,7 @@ use Rattle.rules.specs.Bits.{refused, ok}
 use Rattle.rules.specs.Refusal as Refusal
 use Rattle.rules.specs.Word.{insWord, wordSpan}
 use Rattle.rules.specs.Machine.{Machine, withSections}
-use Rattle.rules.specs.Tables.{Tables, Counts, all, fits, allCode, countsOf}
+use Rattle.rules.specs.Tables.{Tables, Counts, allb, fits, allCode, countsOf}
 use Rattle.rules.specs.Operations.{put, write, fixedHere, allAhead, combineIn, combine}
 use Rattle.rules.specs.Combine.{combineSections, combined}
 use Rattle.tables.specs.Runs.{fixedWord, held}
@@ -40,7 +40,7 @@ module _ (t : Tables) (u : Counts) where
     pub few-sections : u .sections ≤ length (t .sections)
     few-sections = keeps .counts .sections
 
-    fixed-is : all fixedHere (machineOf t u .sections) ≡ all fixedWord (take (u .sections) (t .sections))
+    fixed-is : allb fixedHere (machineOf t u .sections) ≡ allb fixedWord (take (u .sections) (t .sections))
     unfolding held
     fixed-is = fixed-are (take (u .sections) (t .sections)) (take (u .instrs) (t .instrs))
 
@@ -48,11 +48,11 @@ module _ (t : Tables) (u : Counts) where
     unfolding held
     ahead-is = ahead-from (t .sections) (take (u .instrs) (t .instrs)) (u .sections) few-sections 0 (take (u .sections) (t .sections)) (take (u .instrs) (t .instrs))
 
-    pub combine-14 : false ≡ all fixedWord (take (u .sections) (t .sections)) → (refused Refusal.isUnfixed, t) ≡ combine t u
+    pub combine-14 : false ≡ allb fixedWord (take (u .sections) (t .sections)) → (refused Refusal.isUnfixed, t) ≡ combine t u
     unfolding combine combineIn
     combine-14 e = change-no t u combineIn h Refusal.isUnfixed (rw (fixed-is, ← e, combineIn))
 
-    module _ (f : true ≡ all fixedWord (take (u .sections) (t .sections))) where
+    module _ (f : true ≡ allb fixedWord (take (u .sections) (t .sections))) where
       pub combine-15 : false ≡ wordsAhead (t .sections) (u .sections) 0 (take (u .sections) (t .sections)) → (refused Refusal.linksBack, t) ≡ combine t u
       unfolding combine combineIn
       combine-15 e = change-no t u combineIn h Refusal.linksBack (rw (fixed-is, ← f, ahead-is, ← e, combineIn))

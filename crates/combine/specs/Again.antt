@@ -14,7 +14,7 @@ use Rattle.rules.specs.Constants.{mark}
 use Rattle.rules.specs.Instr.{Kind, kinds}
 use Rattle.rules.specs.Word.{insWord, wordIns, insSpare, Run, runWord, wordRun, runSpare}
 use Rattle.rules.specs.Machine.{unfixed, section, line}
-use Rattle.rules.specs.Tables.{Tables, Counts, all, insFits, fieldFits, successFits, startFits, runsFit, flag, kindOf, targetOf, successOf, readSections, runWords, allCode}
+use Rattle.rules.specs.Tables.{Tables, Counts, allb, insFits, fieldFits, successFits, startFits, runsFit, flag, kindOf, targetOf, successOf, readSections, runWords, allCode}
 use Rattle.rules.specs.Demand.{All}
 use Rattle.laws.specs.Words.{InsSmall, ins-small, ins-again, run-small, run-again}
 use Rattle.words.specs.Runs.{run, runOf}
@@ -52,11 +52,11 @@ ins-zero u w e = go (kinds (wordIns w .op)) e
         let b = fieldFits u (l .1) (wordIns w .snd) in
         eqb-true (insSpare w) 0 (both z a (both (z && a) b (both (z && a && b) (fieldFits u (l .2) (wordIns w .thd)) q .0) .0) .0)
 
-code-again : (u : Counts) (is : List ℕ) → Wide is → all (insFits u) is ≡ true → map insWord (map wordIns is) ≡ is
+code-again : (u : Counts) (is : List ℕ) → Wide is → allb (insFits u) is ≡ true → map insWord (map wordIns is) ≡ is
 code-again u [] h e = refl
 code-again u (w ∷ is) h e = by (insFits u w) refl (λ q. code-again u is (λ i. h (suc i)) q)
   where
-    by : (b : Bool) → insFits u w ≡ b → (all (insFits u) is ≡ true → map insWord (map wordIns is) ≡ is) → insWord (wordIns w) ∷ map insWord (map wordIns is) ≡ w ∷ is
+    by : (b : Bool) → insFits u w ≡ b → (allb (insFits u) is ≡ true → map insWord (map wordIns is) ≡ is) → insWord (wordIns w) ∷ map insWord (map wordIns is) ≡ w ∷ is
     by true d ih = rw (ins-again w (h 0) (ins-zero u w d), ih (sym (all-cons (insFits u) w is true d) ∙ e))
     by false d ih = absurd (no (sym (all-cons (insFits u) w is false d) ∙ e))
 

@@ -14,7 +14,7 @@ use Rattle.rules.specs.Instr.{Instruction, Kind, kinds}
 use Rattle.rules.specs.Refusal as Refusal
 use Rattle.rules.specs.Word.{insWord}
 use Rattle.rules.specs.Machine.{SectionOrLine, unfixed, section, line, SectionCode, Machine}
-use Rattle.rules.specs.Tables.{Tables, Counts, all, runWords, allCode, countsOf}
+use Rattle.rules.specs.Tables.{Tables, Counts, allb, runWords, allCode, countsOf}
 use Rattle.rules.specs.Operations.{put, fixedHere, allAhead, combineIn}
 use Rattle.rules.specs.Combine.{combined}
 use Rattle.rules.specs.Demand.{All}
@@ -56,7 +56,7 @@ module _ (u : Counts) (c : Counted u) where
 
 no-refusal : (m r : Machine) (l : Tables) → combineIn l m ≡ ok r → allAhead (m .sections) 0 (m .sections) ≡ true
 unfolding combineIn
-no-refusal m r l e = first (all fixedHere (m .sections)) e
+no-refusal m r l e = first (allb fixedHere (m .sections)) e
   where
     never : (n : ℕ) → _≡_ {A = Res Machine} (refused n) (ok r) → ⊥
     never n e = let z : _≡_ {A = ℕ} 0 1 = cc in omega arith

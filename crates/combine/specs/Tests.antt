@@ -12,7 +12,7 @@ use borrow.Author.Tests.{ltb-true, ltb-false}
 use Rattle.rules.specs.Bits.{isOne}
 use Rattle.rules.specs.Word.{wordRun}
 use Rattle.rules.specs.Machine.{SectionOrLine, unfixed, section, line, SectionCode, absent}
-use Rattle.rules.specs.Tables.{all, successOf, readSections}
+use Rattle.rules.specs.Tables.{allb, successOf, readSections}
 use Rattle.rules.specs.Operations.{fixedHere, nextAhead, allAhead}
 use Rattle.tables.specs.Runs.{countOf, sectionOf, fixedWord}
 use Rattle.tables.proofs.Read.{read-nil, read-cons, all-nil, all-cons}
@@ -44,7 +44,7 @@ one-fixed : (w : ℕ) (is : List ℕ) → fixedHere (sectionOf w is) ≡ fixedWo
 unfolding fixedHere fixedWord
 one-fixed w is = refl
 
-pub fixed-are : (ws is : List ℕ) → all fixedHere (readSections ws is) ≡ all fixedWord ws
+pub fixed-are : (ws is : List ℕ) → allb fixedHere (readSections ws is) ≡ allb fixedWord ws
 fixed-are [] is = rw read-nil (all-nil fixedHere ∙ sym (all-nil fixedWord))
 fixed-are (w ∷ ws) is = rw (read-cons, all-cons fixedHere (sectionOf w is) (readSections ws (drop (countOf w) is)) _ (one-fixed w is), all-cons fixedWord w ws _ refl, fixed-are ws (drop (countOf w) is))
 

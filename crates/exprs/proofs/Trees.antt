@@ -8,7 +8,7 @@ use native.Mathlib.Omega.{arith}
 use lib.ListN.{length, getD, getElem?}
 use Rattle.rules.specs.Constants.{mostBytes, numberBits, charBits, byteBits}
 use Rattle.rules.specs.Bits.{spelled, isOne}
-use Rattle.rules.specs.Tree.{Binop, Unop, Expr, binop, unop, ident, number, string, ofExpr, node, both, none}
+use Rattle.rules.specs.Tree.{Binop, Unop, Expr, binop, unop, ident, number, string, ofExpr, node, both, emptyTally}
 use Rattle.rules.specs.Tree.{And, Or, Add, Sub, Mul, Div, Mod, Pow, Eq, Ne, Le, Lt, Ge, Gt}
 use Rattle.rules.specs.Tree.{Neg, Not, Abs, Sqrt, Fact, Sin, Cos, Tan, Asin, Acos, Atan}
 use Rattle.rules.specs.Parse.{binops, unops, signed}
@@ -58,7 +58,7 @@ unop-most Atan = omega arith
 
 -- at most nine instructions a node
 pub expr-most : (e : Expr) → exprCost e ≤ 9 * ofExpr e .nodes
-unfolding exprCost ofExpr node both none
+unfolding exprCost ofExpr node both emptyTally
 expr-most (binop o l r) = let a = expr-most l in let b = expr-most r in let c = binop-most o in omega arith
 expr-most (unop o r) = let b = expr-most r in let c = unop-most o in omega arith
 expr-most (Expr.incdec i x) = omega arith
@@ -202,7 +202,7 @@ else-string {t} {s} {m} {i} {j} {w} {e} h q a b c d f = by e (rw q at (kind-held
 -- ---- counts
 
 pub nodes-some : (e : Expr) → 1 ≤ ofExpr e .nodes
-unfolding ofExpr node both none
+unfolding ofExpr node both emptyTally
 nodes-some (binop o l r) = omega arith
 nodes-some (unop o r) = omega arith
 nodes-some (Expr.incdec i x) = omega arith

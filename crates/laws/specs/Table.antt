@@ -10,7 +10,7 @@ use lib.ListN.{length, getElem?}
 use borrow.Author.Tests.{ne-eqb, ltb-true, leb-false}
 use Rattle.rules.specs.Opcode.{JumpIfError}
 use Rattle.rules.specs.Instr.{Instruction, Kind, unused, num, str, val, place, Row, table, kinds, register, reads, modifies, canRuntimeErr}
-use Rattle.rules.specs.Tables.{all}
+use Rattle.rules.specs.Tables.{allb}
 use Rattle.laws.specs.Match.{agree}
 use Rattle.rules.specs.Replace.{Rule, stays, goes, turns, number, result, blank, rules, lookup}
 
@@ -21,16 +21,16 @@ past-end (x ∷ l) zero h = absurd (omega arith)
 past-end (x ∷ l) (suc n) h = past-end l n (omega arith)
 
 -- what all pass, the first passes, and the others
-split-all : {A : Type 0} (p : A → Bool) (x : A) (l : List A) → all p (x ∷ l) ≡ true → (p x ≡ true) × (all p l ≡ true)
-unfolding all
+split-all : {A : Type 0} (p : A → Bool) (x : A) (l : List A) → allb p (x ∷ l) ≡ true → (p x ≡ true) × (allb p l ≡ true)
+unfolding allb
 split-all p x l h = go (p x) h
   where
-    go : (b : Bool) → elim b [ false ↦ false | true ↦ all p l ] ≡ true → (b ≡ true) × (all p l ≡ true)
+    go : (b : Bool) → elim b [ false ↦ false | true ↦ allb p l ] ≡ true → (b ≡ true) × (allb p l ≡ true)
     go false h = let z : _≡_ {A = ℕ} 0 1 = cc in absurd (omega arith)
     go true h = (refl, h)
 
 -- a test that all pass, each passes
-pub all-at : {A : Type 0} (p : A → Bool) (l : List A) (n : ℕ) (a : A) → all p l ≡ true → some a ≡ getElem? l n → p a ≡ true
+pub all-at : {A : Type 0} (p : A → Bool) (l : List A) (n : ℕ) (a : A) → allb p l ≡ true → some a ≡ getElem? l n → p a ≡ true
 all-at p [] n a h e = let z : _≡_ {A = ℕ} 0 1 = cc in absurd (omega arith)
 all-at p (x ∷ l) zero a h e = let same : a ≡ x = cc in rw same (split-all p x l h .0)
 all-at p (x ∷ l) (suc n) a h e = all-at p l n a (split-all p x l h .1) e
@@ -109,18 +109,18 @@ abbrev pub Regs : Row → List ℕ → Type 0
 Regs r [] = Unit {0}
 Regs r (f ∷ fs) = (isReg (kindAt r f) ≡ true) × Regs r fs
 
-regs-of : (r : Row) (fs : List ℕ) → all (λ f. isReg (kindAt r f)) fs ≡ true → Regs r fs
+regs-of : (r : Row) (fs : List ℕ) → allb (λ f. isReg (kindAt r f)) fs ≡ true → Regs r fs
 regs-of r [] t = tt
 regs-of r (f ∷ fs) t = let s = split-all (λ g. isReg (kindAt r g)) f fs t in (s .0, regs-of r fs (s .1))
 
 -- what is read are registers, and so is what is modified
 module _ (o : ℕ) (r : Row) (e : some r ≡ getElem? table o) where
   pub read-regs : Regs r (r .reads)
-  unfolding all table
-  read-regs = regs-of r (r .reads) (all-at (λ q. all (λ f. isReg (kindAt q f)) (q .reads)) table o r refl e)
+  unfolding allb table
+  read-regs = regs-of r (r .reads) (all-at (λ q. allb (λ f. isReg (kindAt q f)) (q .reads)) table o r refl e)
 
   pub modified-reg : (f : ℕ) → r .modifies ≡ some f → isReg (kindAt r f) ≡ true
-  unfolding all table
+  unfolding allb table
   modified-reg f m = rw m at (all-at (λ q. elim (q .modifies) [ none ↦ true | some f ↦ isReg (kindAt q f) ]) table o r refl e)
 
 -- ---- numbers that no opcode has
@@ -134,7 +134,7 @@ unfolding canRuntimeErr
 past-err o h = simp (above o 7 (omega arith), above o 26 (omega arith), above o 28 (omega arith), above o 39 (omega arith), above o 40 (omega arith))
 
 -- they have no rule
-past-list : (o : ℕ) (rs : List (ℕ × Rule)) → all (λ r. ltb (r .0) 53) rs ≡ true → 53 ≤ o → stays ≡ lookup o rs
+past-list : (o : ℕ) (rs : List (ℕ × Rule)) → allb (λ r. ltb (r .0) 53) rs ≡ true → 53 ≤ o → stays ≡ lookup o rs
 unfolding lookup
 past-list o [] t h = refl
 past-list o (r ∷ rs) t h =
@@ -143,7 +143,7 @@ past-list o (r ∷ rs) t h =
     rw (above o (r .0) (omega arith), lookup) (past-list o rs (s .1) h)
 
 pub past-rules : (o : ℕ) → 53 ≤ o → stays ≡ lookup o rules
-unfolding all rules
+unfolding allb rules
 past-rules o h = past-list o rules refl h
 
 -- ---- an opcode that a rule turns to has 6 bits
@@ -156,7 +156,7 @@ isSmall (number z) = true
 isSmall (result z) = true
 isSmall blank = true
 
-small-list : (o : ℕ) (rs : List (ℕ × Rule)) → all (λ r. isSmall (r .1)) rs ≡ true → isSmall (lookup o rs) ≡ true
+small-list : (o : ℕ) (rs : List (ℕ × Rule)) → allb (λ r. isSmall (r .1)) rs ≡ true → isSmall (lookup o rs) ≡ true
 unfolding lookup isSmall
 small-list o [] t = refl
 small-list o (r ∷ rs) t = let s = split-all (λ r. isSmall (r .1)) r rs t in go (eqb o (r .0)) (s .0) (small-list o rs (s .1))
@@ -166,5 +166,5 @@ small-list o (r ∷ rs) t = let s = split-all (λ r. isSmall (r .1)) r rs t in g
     go false h k = k
 
 pub turns-lt : (o t : ℕ) → turns t ≡ lookup o rules → t < 64
-unfolding all rules isSmall
+unfolding allb rules isSmall
 turns-lt o t e = ltb-true t 64 (rw (← e) at (small-list o rules refl))

@@ -7,7 +7,7 @@ use native.Mathlib.Numerals.{add-one}
 use native.Mathlib.Omega.{arith}
 use lib.ListN.{length, set}
 use lib.Seq.{sets}
-use Rattle.rules.specs.Tree.{Block, end, ite, assign, ofBlock, statement, node, both, none}
+use Rattle.rules.specs.Tree.{Block, end, ite, assign, ofBlock, statement, node, both, emptyTally}
 use Rattle.rules.specs.Instr.{Instruction}
 use Rattle.rules.specs.Word.{insWord, runWord}
 use Rattle.rules.specs.Machine.{SectionCode, section, absent}
@@ -41,7 +41,7 @@ inner-only (assign x o e xs) = refl
 
 -- own instructions are at most 9 a node of their own
 pub own-most : (x : Block) → ownCost x + 9 * innerNodes x ≤ 9 * ofBlock x .nodes
-unfolding ownCost rest insideTally innerNodes ofBlock statement node both none
+unfolding ownCost rest insideTally innerNodes ofBlock statement node both emptyTally
 own-most end = omega arith
 own-most (Block.goto e xs) = let h = expr-most e in omega arith
 own-most (ite c t f xs) = let h = expr-most c in let j = jump-cost-most (isEnd t) in omega arith

@@ -11,7 +11,7 @@ use borrow.Author.Tests.{leb-true}
 use Rattle.rules.specs.Bits.{ok}
 use Rattle.rules.specs.Word.{wordSpan, spanSpare}
 use Rattle.rules.specs.Machine.{Machine}
-use Rattle.rules.specs.Tables.{Tables, Counts, all, spanFits, fits, decode}
+use Rattle.rules.specs.Tables.{Tables, Counts, allb, spanFits, fits, decode}
 use Rattle.rules.specs.Listing.{rowsN, rowsT, rowsV, rowsS, listing}
 use Rattle.tables.specs.Runs.{total, held}
 use Rattle.tables.proofs.Sound.{no, Sound, sound}
@@ -24,7 +24,7 @@ use Rattle.listing.proofs.Writes.{Are, from-start}
 
 -- ---- a rule of all words, at one of them
 
-all-at : (p : ℕ → Bool) (l : List ℕ) (i : ℕ) → all p l ≡ true → i < length l → p (getD l i 0) ≡ true
+all-at : (p : ℕ → Bool) (l : List ℕ) (i : ℕ) → allb p l ≡ true → i < length l → p (getD l i 0) ≡ true
 all-at p [] i e h = absurd (omega arith)
 all-at p (x ∷ l) zero e h = by (p x) refl
   where
@@ -33,7 +33,7 @@ all-at p (x ∷ l) zero e h = by (p x) refl
     by false q = absurd (no (sym (all-cons p x l false q) ∙ e))
 all-at p (x ∷ l) (suc i) e h = by (p x) refl (λ d. all-at p l i d (omega arith))
   where
-    by : (b : Bool) → p x ≡ b → (all p l ≡ true → p (getD l i 0) ≡ true) → p (getD l i 0) ≡ true
+    by : (b : Bool) → p x ≡ b → (allb p l ≡ true → p (getD l i 0) ≡ true) → p (getD l i 0) ≡ true
     by true q ih = ih (sym (all-cons p x l true q) ∙ e)
     by false q ih = absurd (no (sym (all-cons p x l false q) ∙ e))
 

@@ -78,8 +78,8 @@ hex-more s i h p q = record { flat-is = rw (p, q, add-one, drop-cons s i 0 h, ap
 
 -- ---- the parts of a number and of a text
 
-pub num-is : (v : ℕ) → Are ((32 ∷ []) ∷ Listing.digits 20 v [] ∷ []) (Listing.num v)
-unfolding Listing.num
+pub num-is : (v : ℕ) → Are ((32 ∷ []) ∷ Listing.digits 20 v [] ∷ []) (Listing.nat v)
+unfolding Listing.nat
 num-is v = record { flat-is = rw append-nil }
 
 pub pos-is : (v : ℕ) → Are ((32 ∷ []) ∷ Listing.digits 20 v [] ∷ []) (Listing.int (pos v))
@@ -117,6 +117,6 @@ pub nums-none : (vs : List ℕ) (i : ℕ) → length vs ≤ i → i ≤ length v
 unfolding nums
 nums-none vs i a b = let e : i ≡ length vs = omega arith in record { flat-is = rw (e, drop-length) }
 
-pub nums-more : (vs : List ℕ) (i : ℕ) → i < length vs → Are (Listing.num (getD vs i 0) ∷ nums (drop (i + 1) vs) ∷ []) (nums (drop i vs))
+pub nums-more : (vs : List ℕ) (i : ℕ) → i < length vs → Are (Listing.nat (getD vs i 0) ∷ nums (drop (i + 1) vs) ∷ []) (nums (drop i vs))
 unfolding nums
 nums-more vs i h = record { flat-is = rw (add-one, drop-cons vs i 0 h, append-nil) }

@@ -15,7 +15,7 @@ use Rattle.rules.specs.Bits.{isOne}
 use Rattle.rules.specs.Constants.{mark}
 use Rattle.rules.specs.Word.{Run, wordIns, wordRun}
 use Rattle.rules.specs.Tables.{Counts, flag, kindOf, targetOf, successOf}
-use Rattle.rules.specs.Listing.{num, int, hexText, row, refusal}
+use Rattle.rules.specs.Listing.{nat, int, hexText, row, refusal}
 use Rattle.laws.specs.Words.{run-small}
 use Rattle.listing.specs.Rows.{nums, countsRow, textRow, instrRow, sectionRow}
 use Rattle.listing.proofs.Writes.{Are}
@@ -27,11 +27,11 @@ unfolding row
 row-parts l a = record { flat-is = refl }
 
 -- a signed number goes by its bits
-pub number-parts : (i : ℕ) (z : ℤ) → SFits w64 z → Are ((78 ∷ []) ∷ num i ∷ int (toZ w64 (ofZ w64 z)) ∷ (10 ∷ []) ∷ []) (row 78 (num i ++ int z))
+pub number-parts : (i : ℕ) (z : ℤ) → SFits w64 z → Are ((78 ∷ []) ∷ nat i ∷ int (toZ w64 (ofZ w64 z)) ∷ (10 ∷ []) ∷ []) (row 78 (nat i ++ int z))
 unfolding row
 number-parts i z f = record { flat-is = rw (toZ-ofZ w64 z f) (simp append-assoc) }
 
-pub text-parts : (i : ℕ) (s : List ℕ) → Are ((84 ∷ []) ∷ num i ∷ num (length s) ∷ hexText s ∷ (10 ∷ []) ∷ []) (textRow i s)
+pub text-parts : (i : ℕ) (s : List ℕ) → Are ((84 ∷ []) ∷ nat i ∷ nat (length s) ∷ hexText s ∷ (10 ∷ []) ∷ []) (textRow i s)
 unfolding row textRow
 text-parts i s = record { flat-is = simp append-assoc }
 
@@ -41,13 +41,13 @@ pub counts-row : (u : Counts) → row 77 (nums (u .lines ∷ u .sections ∷ u .
 unfolding countsRow nums
 counts-row u = ap (row 77) (simp (append-assoc, append-nil))
 
-pub name-row : (i v : ℕ) → row 86 (nums (i ∷ v ∷ [])) ≡ row 86 (num i ++ num v)
+pub name-row : (i v : ℕ) → row 86 (nums (i ∷ v ∷ [])) ≡ row 86 (nat i ++ nat v)
 unfolding nums
 name-row i v = ap (row 86) (simp append-nil)
 
 pub refusal-row : (n : ℕ) → row 82 (nums (n ∷ [])) ≡ refusal n
 unfolding refusal nums
-refusal-row n = ap (row 82) (append-nil (num n))
+refusal-row n = ap (row 82) (append-nil (nat n))
 
 pub instr-row : (w : ℕ) {o a b c : ℕ} → o ≡ wordIns w .op → a ≡ wordIns w .fst → b ≡ wordIns w .snd → c ≡ wordIns w .thd → row 73 (nums (o ∷ a ∷ b ∷ c ∷ [])) ≡ instrRow w
 unfolding instrRow nums

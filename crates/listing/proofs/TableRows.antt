@@ -14,7 +14,7 @@ use mir.ValLaws.{toZ-ofZ}
 use borrow.Author.Tests.{eq-eqb, ne-eqb}
 use Rattle.rules.specs.Constants.{mark}
 use Rattle.rules.specs.Word.{wordIns, wordSpan}
-use Rattle.rules.specs.Listing.{num, int, row, rowsN, rowsT, rowsV, rowsI}
+use Rattle.rules.specs.Listing.{nat, int, row, rowsN, rowsT, rowsV, rowsI}
 use Rattle.listing.specs.Rows.{textRow, instrRow}
 use Rattle.listing.proofs.Writes.{Are}
 
@@ -26,7 +26,7 @@ module _ (i n : ℕ) (t : List ℤ) where
   numbers-none a b = let e : i ≡ n = omega arith in record { flat-is = rw (e, slice-empty) }
 
   -- a signed number goes by its bits
-  pub numbers-more : i < n → n ≤ length t → SFits w64 (getD t i (pos 0)) → Are (row 78 (num i ++ int (toZ w64 (ofZ w64 (getD t i (pos 0))))) ∷ rowsN (i + 1) (slice (i + 1) n t) ∷ []) (rowsN i (slice i n t))
+  pub numbers-more : i < n → n ≤ length t → SFits w64 (getD t i (pos 0)) → Are (row 78 (nat i ++ int (toZ w64 (ofZ w64 (getD t i (pos 0))))) ∷ rowsN (i + 1) (slice (i + 1) n t) ∷ []) (rowsN i (slice i n t))
   unfolding rowsN
   numbers-more a b f = record { flat-is = rw (toZ-ofZ w64 (getD t i (pos 0)) f, slice-cons i n t (pos 0) a b, add-one, append-nil) }
 
@@ -42,7 +42,7 @@ module _ (i n : ℕ) (t : List ℕ) where
     unfolding rowsV
     names-mark e = record { flat-is = rw (slice-cons i n t 0 a b, add-one, append-nil, rowsV, eq-eqb (getD t i 0) mark e) }
 
-    pub names-more : (getD t i 0 ≡ mark → ⊥) → Are (row 86 (num i ++ num (getD t i 0)) ∷ rowsV (i + 1) (slice (i + 1) n t) ∷ []) (rowsV i (slice i n t))
+    pub names-more : (getD t i 0 ≡ mark → ⊥) → Are (row 86 (nat i ++ nat (getD t i 0)) ∷ rowsV (i + 1) (slice (i + 1) n t) ∷ []) (rowsV i (slice i n t))
     unfolding rowsV
     names-more e = record { flat-is = rw (slice-cons i n t 0 a b, add-one, append-nil, rowsV, ne-eqb (getD t i 0) mark e) }
 

@@ -71,8 +71,8 @@ fn put_digits(out: &mut [u8], at: usize, v: usize) -> usize
 }
 
 pub(crate) fn put_num(out: &mut [u8], at: usize, v: usize) -> usize
-    requires { ⌜ Room (now out) at (Listing.num v) ⌝ }
-    ensures { λ r. ⌜ Wrote (now (out .entry)) (now (out .exit)) at r (Listing.num v) ⌝ }
+    requires { ⌜ Room (now out) at (Listing.nat v) ⌝ }
+    ensures { λ r. ⌜ Wrote (now (out .entry)) (now (out .exit)) at r (Listing.nat v) ⌝ }
 {
     let a = put(out, at, BLANK);
     put_digits(out, a, v)

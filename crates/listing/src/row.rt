@@ -39,8 +39,8 @@ pub(crate) fn row_m(out: &mut [u8], at: usize, c: Counts) -> usize
 
 // N register thousandths
 pub(crate) fn row_n(out: &mut [u8], at: usize, i: usize, z: i64) -> usize
-    requires { ⌜ Room (now out) at (Listing.row 78 (Listing.num i ++ Listing.int z)) ⌝ }
-    ensures { λ r. ⌜ Wrote (now (out .entry)) (now (out .exit)) at r (Listing.row 78 (Listing.num i ++ Listing.int z)) ⌝ }
+    requires { ⌜ Room (now out) at (Listing.row 78 (Listing.nat i ++ Listing.int z)) ⌝ }
+    ensures { λ r. ⌜ Wrote (now (out .entry)) (now (out .exit)) at r (Listing.row 78 (Listing.nat i ++ Listing.int z)) ⌝ }
 {
     let mut a = put(out, at, b'N');
     a = put_num(out, a, i);
@@ -62,8 +62,8 @@ pub(crate) fn row_t(out: &mut [u8], at: usize, i: usize, s: &[u8]) -> usize
 
 // V name register
 pub(crate) fn row_v(out: &mut [u8], at: usize, i: usize, v: u16) -> usize
-    requires { ⌜ Room (now out) at (Listing.row 86 (Listing.num i ++ Listing.num v)) ⌝ }
-    ensures { λ r. ⌜ Wrote (now (out .entry)) (now (out .exit)) at r (Listing.row 86 (Listing.num i ++ Listing.num v)) ⌝ }
+    requires { ⌜ Room (now out) at (Listing.row 86 (Listing.nat i ++ Listing.nat v)) ⌝ }
+    ensures { λ r. ⌜ Wrote (now (out .entry)) (now (out .exit)) at r (Listing.row 86 (Listing.nat i ++ Listing.nat v)) ⌝ }
 {
     let fields = [i, v as usize];
     row(out, at, b'V', &fields)

@@ -41,7 +41,7 @@ use Rattle.lower.proofs.Done as Done
 -- ---- counts of a tree
 
 lines-widths : (bs : List Block) → widths bs ≤ 4 * ofLines bs .statements
-unfolding widths ofLines bothTallies Tree.none
+unfolding widths ofLines bothTallies Tree.emptyTally
 lines-widths [] = omega arith
 lines-widths (b ∷ bs) = omega (arith, four b, lines-widths bs)
 

@@ -7,8 +7,8 @@ use lib.ListN.{length, getD}
 use Rattle.rules.specs.Bits.{Res, refused, ok, isOne}
 use Rattle.rules.specs.Constants.{flagBits, numberBits}
 use Rattle.rules.specs.Refusal.{unassigned}
-use Rattle.rules.specs.Tree.{Expr, Block, number, ofExpr, ofBlock, statement, node, both, none}
-use Rattle.rules.specs.Parse.{Reader, At, bits, nameOf, pure, refuse, _>>=_, incdecOf, stepOf, numberOf, signed}
+use Rattle.rules.specs.Tree.{Expr, Block, number, ofExpr, ofBlock, statement, node, both, emptyTally}
+use Rattle.rules.specs.Parse.{Reader, At, bits, nameOf, succeed, refuse, _>>=_, incdecOf, stepOf, numberOf, signed}
 use Rattle.bits.specs.Reads.{Gives, Fine, at, charsAt}
 use Rattle.bits.specs.declared.Cursor.{Cursor}
 use Rattle.bits.specs.declared.Step.{Step}
@@ -63,20 +63,20 @@ abbrev mapRes : {A B : Type 0} → (A → B) → Res (A × At) → Res (B × At)
 mapRes f (ok r) = ok (f (r .0), r .1)
 mapRes f (refused n) = refused n
 
-repure : {B : Type 0} (m q : Reader ℕ) (f : ℕ → ℕ → B) {s : List ℕ} {c : At} {res : Res ((ℕ × ℕ) × At)} → Gives (m >>= λ b. q >>= λ x. pure (b, x)) s c res
-    → Gives (m >>= λ b. q >>= λ x. pure (f b x)) s c (mapRes (λ p. f (p .0) (p .1)) res)
+repure : {B : Type 0} (m q : Reader ℕ) (f : ℕ → ℕ → B) {s : List ℕ} {c : At} {res : Res ((ℕ × ℕ) × At)} → Gives (m >>= λ b. q >>= λ x. succeed (b, x)) s c res
+    → Gives (m >>= λ b. q >>= λ x. succeed (f b x)) s c (mapRes (λ p. f (p .0) (p .1)) res)
 repure {B} m q f {s} {c} {res} h = by (see m s c)
   where
-    by : Seen m s c → Gives (m >>= λ b. q >>= λ x. pure (f b x)) s c (mapRes (λ p. f (p .0) (p .1)) res)
+    by : Seen m s c → Gives (m >>= λ b. q >>= λ x. succeed (f b x)) s c (mapRes (λ p. f (p .0) (p .1)) res)
     by (refuses-at n r) = let y : res ≡ refused n = unique h (stop _ r) in rw y (stop _ r)
     by (said a d r) = next (see q s d)
       where
-        next : Seen q s d → Gives (m >>= λ b. q >>= λ x. pure (f b x)) s c (mapRes (λ p. f (p .0) (p .1)) res)
+        next : Seen q s d → Gives (m >>= λ b. q >>= λ x. succeed (f b x)) s c (mapRes (λ p. f (p .0) (p .1)) res)
         next (refuses-at n g) = let y : res ≡ refused n = unique h (then _ r (stop _ g)) in rw y (then _ r (stop _ g))
         next (said x e g) = let y : res ≡ ok ((a, x), e) = unique h (then _ r (then _ g done)) in rw y (then _ r (then _ g done))
 
 pub incdec-leaf : (n i : ℕ) {s t t' : List ℕ} {c : Cursor} {st : Step} → Builds (flagR n) (heldF incdecKind n) countF s t t' (before i c) c st → Builds (incdecOf n) (heldE s n) countE s t t' (before i c) c st
-unfolding flagR incdecOf ofExpr node none
+unfolding flagR incdecOf ofExpr node emptyTally
 incdec-leaf n i {st = Next v d} u =
     let h = u .here in
     let k = h .counts in
@@ -94,7 +94,7 @@ incdec-leaf n i {st = Refused x} u = record { here = repure (bits flagBits) (nam
 
 pub incdec-stmt : (n i : ℕ) {s t t' : List ℕ} {b c : Cursor} {st : Step} → b .nodes ≡ i → c .statements ≡ b .statements + 1 → c .sections ≡ b .sections + 1 → c .strings ≡ b .strings → c .chars ≡ b .chars
     → Builds (flagR n) (heldF stepKind n) countF s t t' (before i c) c st → Builds (stepOf n) (heldS s n) countS s t t' b c st
-unfolding flagR stepOf ofBlock statement node both none width
+unfolding flagR stepOf ofBlock statement node both emptyTally width
 incdec-stmt n i {st = Next v d} p q r x y u =
     let h = u .here in
     let f = h .holds in
@@ -122,7 +122,7 @@ no-leaf n (suc (suc (suc (suc (suc zero))))) a b d e = absurd (e refl)
 no-leaf n (suc (suc (suc (suc (suc (suc k)))))) a b d e = record { is = refl }
 
 -- a number's reader, written out: where it is opened, so is what 64 bits spell
-pub number-from : {s : List ℕ} {c : At} {res : Res (Expr × At)} → Gives (bits numberBits >>= λ v. pure (number (signed v))) s c res → Gives numberOf s c res
+pub number-from : {s : List ℕ} {c : At} {res : Res (Expr × At)} → Gives (bits numberBits >>= λ v. succeed (number (signed v))) s c res → Gives numberOf s c res
 unfolding numberOf
 number-from g = g
 

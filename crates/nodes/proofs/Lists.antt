@@ -6,7 +6,7 @@ use native.Mathlib.Omega.{arith}
 use native.Mathlib.Numerals.{sub-one}
 use Rattle.rules.specs.Constants.{listBits}
 use Rattle.rules.specs.Bits.{Res, refused, ok}
-use Rattle.rules.specs.Tree.{Block, end, ofBlock, none}
+use Rattle.rules.specs.Tree.{Block, end, ofBlock, emptyTally}
 use Rattle.rules.specs.Parse.{Reader, At, stmt, block, bits, _>>=_}
 use Rattle.bits.specs.Reads.{Gives, Took, Fine, at}
 use Rattle.bits.specs.declared.Cursor.{Cursor}
@@ -76,7 +76,7 @@ mid-stop {left = left} {x = x} m h g = m .stops x (block-stop left h g)
 -- the end: what was read stands behind the count
 pub list-built : {n dep : ℕ} {s t0 t : List ℕ} {c c1 d : Cursor} {count left : ℕ} → Took (bits listBits) s c 0 0 64 count c1 → Midway n dep s t0 t c1 d count left → left ≤ 0
     → Built (listR n dep) (heldB s n) countB s t0 t c c count d
-unfolding listR ofBlock none width
+unfolding listR ofBlock emptyTally width
 list-built {t = t} {c = c} {c1 = c1} {d = d} {left = left} k m h =
     let v = k .moved in
     let x = m .counts end d (omega arith) in

@@ -1,7 +1,7 @@
 -- Sections are at most four a statement.
 use Prim.Native.Nat.{ℕ, _+_, _*_, _≤_, _<_}
 use native.Mathlib.Omega.{arith}
-use Rattle.rules.specs.Tree.{Block, goto, ite, assign, end, ofBlock, statement, node, both, none}
+use Rattle.rules.specs.Tree.{Block, goto, ite, assign, end, ofBlock, statement, node, both, emptyTally}
 use Rattle.nodes.specs.Width.{width, orOne}
 
 pub record OrOne (n : ℕ) : Type 0 where
@@ -18,7 +18,7 @@ unfolding orOne
 or-one-lt n m h k = omega arith
 
 pub four : (x : Block) → width x ≤ 4 * ofBlock x .statements
-unfolding width ofBlock statement node both none
+unfolding width ofBlock statement node both emptyTally
 four end = omega arith
 four (goto e s) = let h = four s in omega arith
 four (ite c t e s) = let h = four s in let k = four t in let l = four e in let p = or-one (width t) in let q = or-one (width e) in omega arith

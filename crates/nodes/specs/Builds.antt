@@ -7,7 +7,7 @@ use Rattle.rules.specs.Constants.{mostNodes, mostNames, listBits, flagBits}
 use Rattle.rules.specs.Refusal.{unassigned}
 use Rattle.rules.specs.Bits.{refused, ok}
 use Rattle.rules.specs.Tree.{Tally, Expr, Block, ofExpr, ofBlock}
-use Rattle.rules.specs.Parse.{Reader, At, expr, stmt, block, bits, nameOf, pure, refuse, exprKinds, stmtKinds, incdecOf, identOf, numberOf, stringOf, _>>=_}
+use Rattle.rules.specs.Parse.{Reader, At, expr, stmt, block, bits, nameOf, succeed, refuse, exprKinds, stmtKinds, incdecOf, identOf, numberOf, stringOf, _>>=_}
 use Rattle.bits.specs.Reads.{Gives, at, Fine}
 use Rattle.bits.specs.declared.Cursor.{Cursor}
 use Rattle.bits.specs.declared.Step.{Step}
@@ -146,7 +146,7 @@ unfoldable pub flagR : ℕ → Reader (ℕ × ℕ)
 flagR n = do
   b ← bits flagBits
   x ← nameOf n
-  pure (b, x)
+  succeed (b, x)
 
 abbrev pub heldF : ℕ → ℕ → List ℕ → ℕ → ℕ → ℕ × ℕ → ℕ → Type 0
 heldF kind n t v i p j = Flag kind n t i (p .0) (p .1) j

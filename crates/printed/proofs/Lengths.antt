@@ -15,7 +15,7 @@ use Rattle.rules.specs.Bits.{isOne}
 use Rattle.rules.specs.Word.{wordIns, wordRun}
 use Rattle.rules.specs.Machine.{SectionCode}
 use Rattle.rules.specs.Tables.{Tables, Counts, flag, kindOf, targetOf, successOf, readSections, fits}
-use Rattle.rules.specs.Listing.{digits, num, int, hex, hexText, row, rowsN, rowsT, rowsV, rowsI, rowsS, listing, refusal}
+use Rattle.rules.specs.Listing.{digits, nat, int, hex, hexText, row, rowsN, rowsT, rowsV, rowsI, rowsS, listing, refusal}
 use Rattle.rules.specs.Lowered.{spans, texts}
 use Rattle.laws.specs.Words.{ins-small, run-small}
 use Rattle.laws.specs.Success.{flag-lt, kind-lt}
@@ -36,8 +36,8 @@ digits-length (suc n) v t = by (ltb v 10) refl (digits-length n (v / 10) ((48 + 
     by true e h = rw (e, digits) (omega arith)
     by false e h = rw (e, digits) (omega arith)
 
-num-length : (v : ℕ) → length (num v) ≤ 21
-unfolding num
+num-length : (v : ℕ) → length (nat v) ≤ 21
+unfolding nat
 num-length v = let h = digits-length 20 v [] in omega arith
 
 -- a digit more, for numbers up to ten times as large
@@ -56,8 +56,8 @@ more n k b h v t l = by (ltb v 10) refl (h (v / 10) ((48 + v % 10) ∷ t) (omega
 five : (v : ℕ) (t : List ℕ) → v < 100000 → length (digits 20 v t) ≤ 5 + length t
 five = more 19 4 10000 (more 18 3 1000 (more 17 2 100 (more 16 1 10 (one-digit 15))))
 
-num-few : (v : ℕ) → v < 65536 → length (num v) ≤ 6
-unfolding num
+num-few : (v : ℕ) → v < 65536 → length (nat v) ≤ 6
+unfolding nat
 num-few v l = let h = five v [] (omega arith) in omega arith
 
 int-length : (z : ℤ) → length (int z) ≤ 22
@@ -83,7 +83,7 @@ row-length l s = simp length-append (omega arith)
 
 pub refusal-length : (n : ℕ) → length (refusal n) ≤ 23
 unfolding refusal
-refusal-length n = let h = num-length n in rw (row-length 82 (num n)) (omega arith)
+refusal-length n = let h = num-length n in rw (row-length 82 (nat n)) (omega arith)
 
 -- from row i on; the last is below 65,536
 

@@ -10,7 +10,7 @@ use lib.ListN.{length, getD, length-append}
 use lib.Seq.{sets}
 use borrow.Author.Tests.{eq-eqb, ne-eqb}
 use Rattle.rules.specs.Constants.{mostBytes}
-use Rattle.rules.specs.Tree.{Block, end, ofBlock, ofLines, both, none}
+use Rattle.rules.specs.Tree.{Block, end, ofBlock, ofLines, both, emptyTally}
 use Rattle.rules.specs.Word.{insWord}
 use Rattle.rules.specs.Machine.{SectionCode, absent}
 use Rattle.rules.specs.Tables.{runWords, allCode}
@@ -103,7 +103,7 @@ line-held {ls = ls} {k = k} {i = i} h (a-line n f w b e l) =
     record { block = _; others = _; last = _; is = refl; here = y; behind = rw (← e) l; ends = lines-grow l; more = omega (arith, lines-count l); sum = lines-sum _ _ _ refl }
 
 pub owns-most : (bs : List Block) → ownCosts bs + 9 * innerAll bs ≤ 9 * ofLines bs .nodes
-unfolding ownCosts innerAll ofLines both none
+unfolding ownCosts innerAll ofLines both emptyTally
 owns-most [] = omega arith
 owns-most (b ∷ bs) = let h = own-most b in let k = owns-most bs in omega arith
 
@@ -153,7 +153,7 @@ pub same-counts : {c d : Counters} → d ≡ c → SameCounts c d
 same-counts q = rw q (record { at = refl; numbers = refl; strings = refl; chars = refl; values = refl })
 
 pub lines-none : {m L k n head : ℕ} {c : Counters} {t : Lent} {se : List ℕ} (bs : List Block) → bs ≡ [] → LinesDone m L k bs n head c t t se se head c n
-unfolding annotateLines ownCosts innerAll ofLines none widths
+unfolding annotateLines ownCosts innerAll ofLines emptyTally widths
 lines-none bs e =
     rw e
     (record {

@@ -38,7 +38,7 @@ use Rattle.program.proofs.Script.{script-length}
 -- ---- a node a word
 
 expr-nodes : {t s : List ℕ} {m i j : ℕ} {e : Expr} → HoldsE t s m i e j → j ≡ i + ofExpr e .nodes
-unfolding ofExpr node both Tree.none
+unfolding ofExpr node both Tree.emptyTally
 expr-nodes (at-binop op o p w q l r) = let a = expr-nodes l in let b = expr-nodes r in omega arith
 expr-nodes (at-unop op o p w q r) = let a = expr-nodes r in omega arith
 expr-nodes (at-incdec b f x p g) = omega (arith, g .last)
@@ -47,7 +47,7 @@ expr-nodes (at-number p z l w k q) = omega arith
 expr-nodes (at-string n p x l w y k q) = omega arith
 
 block-nodes : {t s : List ℕ} {m n i z : ℕ} {x : Block} → HoldsB t s m n i x z → z ≡ i + ofBlock x .nodes
-unfolding ofBlock statement node both Tree.none
+unfolding ofBlock statement node both Tree.emptyTally
 block-nodes (at-end p q) = omega arith
 block-nodes (at-goto p w q e xs) = let a = expr-nodes e in let b = block-nodes xs in omega arith
 block-nodes (at-ite n k v b p w f q e x y xs) = let a = expr-nodes e in let b = block-nodes x in let c = block-nodes y in let d = block-nodes xs in omega arith
@@ -55,7 +55,7 @@ block-nodes (at-step b f y p q g xs) = let a = g .last in let b = block-nodes xs
 block-nodes (at-assign y op o p b w k q e xs) = let a = expr-nodes e in let b = block-nodes xs in omega arith
 
 pub lines-nodes : {t ls s : List ℕ} {m k i L z : ℕ} {bs : List Block} → HoldsL t ls s m k i bs L z → z ≡ i + ofLines bs .nodes
-unfolding ofLines both Tree.none
+unfolding ofLines both Tree.emptyTally
 lines-nodes (no-line p q) = omega arith
 lines-nodes (a-line n f w b p l) = let a = block-nodes b in let c = lines-nodes l in omega arith
 

@@ -22,9 +22,9 @@ digits zero v t = t
 digits (suc n) v t = let u = (48 + v % 10) ∷ t in elim (ltb v 10) [ true ↦ u | false ↦ digits n (v / 10) u ]
 
 -- a blank and a number; 20 digits hold any u64
-unfoldable pub num : ℕ → List ℕ
+unfoldable pub nat : ℕ → List ℕ
 unfolding digits
-num v = 32 ∷ digits 20 v []
+nat v = 32 ∷ digits 20 v []
 
 -- a blank and a number with its sign
 unfoldable pub int : ℤ → List ℕ
@@ -54,45 +54,45 @@ row letter fields = letter ∷ fields ++ (10 ∷ [])
 
 -- N register thousandths
 unfoldable pub rowsN : ℕ → List ℤ → List ℕ
-unfolding row num int
+unfolding row nat int
 rowsN i [] = []
-rowsN i (z ∷ zs) = row 78 (num i ++ int z) ++ rowsN (suc i) zs
+rowsN i (z ∷ zs) = row 78 (nat i ++ int z) ++ rowsN (suc i) zs
 
 -- T register length hex
 unfoldable pub rowsT : List ℕ → ℕ → List Span → List ℕ
-unfolding row num hexText
+unfolding row nat hexText
 rowsT pool i [] = []
-rowsT pool i (t ∷ ts) = row 84 (num i ++ num (t .size) ++ hexText (take (t .size) (drop (t .start) pool))) ++ rowsT pool (suc i) ts
+rowsT pool i (t ∷ ts) = row 84 (nat i ++ nat (t .size) ++ hexText (take (t .size) (drop (t .start) pool))) ++ rowsT pool (suc i) ts
 
 -- V name register, where it is not 65,535
 unfoldable pub rowsV : ℕ → List ℕ → List ℕ
-unfolding row num
+unfolding row nat
 rowsV i [] = []
-rowsV i (v ∷ vs) = elim (eqb v mark) [ true ↦ rowsV (suc i) vs | false ↦ row 86 (num i ++ num v) ++ rowsV (suc i) vs ]
+rowsV i (v ∷ vs) = elim (eqb v mark) [ true ↦ rowsV (suc i) vs | false ↦ row 86 (nat i ++ nat v) ++ rowsV (suc i) vs ]
 
 -- I opcode and three fields
 unfoldable pub rowsI : List Instruction → List ℕ
-unfolding row num
+unfolding row nat
 rowsI [] = []
-rowsI (i ∷ is) = row 73 (num (i .op) ++ num (i .fst) ++ num (i .snd) ++ num (i .thd)) ++ rowsI is
+rowsI (i ∷ is) = row 73 (nat (i .op) ++ nat (i .fst) ++ nat (i .snd) ++ nat (i .thd)) ++ rowsI is
 
 -- S section linestart kind target count, followed by its I rows
 unfoldable pub rowsS : ℕ → List SectionCode → List ℕ
-unfolding row num flag kindOf targetOf rowsI
+unfolding row nat flag kindOf targetOf rowsI
 rowsS i [] = []
-rowsS i (s ∷ ss) = row 83 (num i ++ num (flag (s .lineStart)) ++ num (kindOf (s .success)) ++ num (targetOf (s .success)) ++ num (length (s .instrs))) ++ (rowsI (s .instrs) ++ rowsS (suc i) ss)
+rowsS i (s ∷ ss) = row 83 (nat i ++ nat (flag (s .lineStart)) ++ nat (kindOf (s .success)) ++ nat (targetOf (s .success)) ++ nat (length (s .instrs))) ++ (rowsI (s .instrs) ++ rowsS (suc i) ss)
 
 -- M lines sections numbers strings values, then the other rows in their order
 unfoldable pub listing : Machine → List ℕ
-unfolding row num rowsN rowsT rowsV rowsS
+unfolding row nat rowsN rowsT rowsV rowsS
 listing m =
-    row 77 (num (m .lines) ++ num (length (m .sections)) ++ num (length (m .numbers)) ++ num (length (m .strings)) ++ num (m .values))
+    row 77 (nat (m .lines) ++ nat (length (m .sections)) ++ nat (length (m .numbers)) ++ nat (length (m .strings)) ++ nat (m .values))
     ++ (rowsN 0 (m .numbers) ++ (rowsT (m .pool) 0 (m .strings) ++ (rowsV 0 (m .names) ++ rowsS 0 (m .sections))))
 
 -- R and the number
 unfoldable pub refusal : ℕ → List ℕ
-unfolding row num
-refusal n = row 82 (num n)
+unfolding row nat
+refusal n = row 82 (nat n)
 
 -- do the tables that finlist lends hold the estimates? strings, pool and names are lent as counted
 unfoldable pub fitsFinlist : Counts → Bool

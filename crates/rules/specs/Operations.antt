@@ -14,7 +14,7 @@ use Rattle.rules.specs.Parse.{parse}
 use Rattle.rules.specs.Instr.{Instruction, isJump}
 use Rattle.rules.specs.Word.{Span, wordSpan, spanSpare}
 use Rattle.rules.specs.Machine.{SectionOrLine, unfixed, section, line, isFixed, SectionCode, absent, Machine}
-use Rattle.rules.specs.Tables.{Tables, Counts, all, decode, encode, countsOf}
+use Rattle.rules.specs.Tables.{Tables, Counts, allb, decode, encode, countsOf}
 use Rattle.rules.specs.Lowered.{Options, lowered, finished}
 use Rattle.rules.specs.Replace.{replaced}
 use Rattle.rules.specs.Clean.{cleaned}
@@ -131,13 +131,13 @@ jumpFixed ss i = elim (isJump i) [ true ↦ isFixed (getD ss (i .fst) absent .su
 
 -- are the targets of a section's jumps fixed?
 unfoldable pub jumpsFixed : List SectionCode → SectionCode → Bool
-unfolding all jumpFixed
-jumpsFixed ss s = all (jumpFixed ss) (s .instrs)
+unfolding allb jumpFixed
+jumpsFixed ss s = allb (jumpFixed ss) (s .instrs)
 
 -- clean: 13 where a section below L is unfixed or a jump targets an unfixed section
 unfoldable pub cleanIn : Tables → Machine → Res Machine
-unfolding all fixedHere jumpsFixed cleaned
-cleanIn t m = elim (all fixedHere (take (m .lines) (m .sections)) && all (jumpsFixed (m .sections)) (m .sections)) [ true ↦ ok (cleaned m) | false ↦ refused Refusal.needsUnfixed ]
+unfolding allb fixedHere jumpsFixed cleaned
+cleanIn t m = elim (allb fixedHere (take (m .lines) (m .sections)) && allb (jumpsFixed (m .sections)) (m .sections)) [ true ↦ ok (cleaned m) | false ↦ refused Refusal.needsUnfixed ]
 
 -- section i's successor is a line start or does not lie below it
 unfoldable pub nextAhead : List SectionCode → ℕ → SectionOrLine → Bool
@@ -153,8 +153,8 @@ allAhead ss i (x ∷ xs) = elim (nextAhead ss i (x .success)) [ false ↦ false 
 
 -- combine: 14 where a section is unfixed, then 15 where a successor that is no line start lies below its section
 unfoldable pub combineIn : Tables → Machine → Res Machine
-unfolding all fixedHere allAhead combined
-combineIn t m = elim (all fixedHere (m .sections)) [
+unfolding allb fixedHere allAhead combined
+combineIn t m = elim (allb fixedHere (m .sections)) [
   | false ↦ refused Refusal.isUnfixed
   | true ↦ elim (allAhead (m .sections) 0 (m .sections)) [ false ↦ refused Refusal.linksBack | true ↦ ok (combined m) ]
 ]

@@ -25,8 +25,8 @@ abbrev pub Reader : Type 0 → Type 0
 Reader A = List ℕ → At → Res (A × At)
 
 -- reads nothing
-unfoldable pub pure : {A : Type 0} → A → Reader A
-pure a s c = ok (a, c)
+unfoldable pub succeed : {A : Type 0} → A → Reader A
+succeed a s c = ok (a, c)
 
 -- reads nothing and refuses
 unfoldable pub refuse : {A : Type 0} → ℕ → Reader A
@@ -39,8 +39,8 @@ _>>=_ m f s c = elim (m s c) [ refused n ↦ refused n | ok r ↦ f (r .0) s (r 
 
 -- refusal n unless the test passes
 unfoldable pub demand : Bool → ℕ → Reader (Unit {0})
-unfolding pure refuse
-demand true n = pure tt
+unfolding succeed refuse
+demand true n = succeed tt
 demand false n = refuse n
 
 -- the next w bits
@@ -54,30 +54,30 @@ begin s c = elim (ltb (c .nodes) mostNodes) [ false ↦ refused Refusal.tooManyN
 
 -- n times the same
 unfoldable pub many : {A : Type 0} → ℕ → Reader A → Reader (List A)
-unfolding pure _>>=_
-many zero r = pure []
+unfolding succeed _>>=_
+many zero r = succeed []
 many (suc n) r = do
   x ← r
   xs ← many n r
-  pure (x ∷ xs)
+  succeed (x ∷ xs)
 
 -- n statements, each read as what puts it before a list
 unfoldable pub block : ℕ → Reader (Block → Block) → Reader Block
-unfolding pure _>>=_
-block zero r = pure end
+unfolding succeed _>>=_
+block zero r = succeed end
 block (suc n) r = do
   x ← r
   xs ← block n r
-  pure (x xs)
+  succeed (x xs)
 
 -- ---- fields with a meaning
 
 -- an operator of w bits out of its declared order: 4 where unassigned
 unfoldable pub operator : {A : Type 0} → ℕ → List A → Reader A
-unfolding bits pure refuse _>>=_
+unfolding bits succeed refuse _>>=_
 operator w ops = do
   k ← bits w
-  elim (getElem? ops k) [ none ↦ refuse Refusal.unassigned | some o ↦ pure o ]
+  elim (getElem? ops k) [ none ↦ refuse Refusal.unassigned | some o ↦ succeed o ]
 
 -- the operators in their declared order
 unfoldable pub binops : List Binop
@@ -91,11 +91,11 @@ assignops = Plain ∷ AddTo ∷ SubTo ∷ MulTo ∷ DivTo ∷ ModTo ∷ PowTo �
 
 -- a name's number, of n names: 5 where the table has it not
 unfoldable pub nameOf : ℕ → Reader ℕ
-unfolding bits pure demand _>>=_
+unfolding bits succeed demand _>>=_
 nameOf n = do
   x ← bits nameBits
   _ ← demand (ltb x n) Refusal.unknownName
-  pure x
+  succeed x
 
 -- 64 bits in two's complement
 unfoldable pub signed : ℕ → ℤ
@@ -104,80 +104,80 @@ signed n = elim (ltb n (2 ^ (numberBits - 1))) [ true ↦ pos n | false ↦ negs
 -- ---- kinds of nodes; n is the number of names, r reads an operand, q a statement held
 
 unfoldable pub binopOf : Reader Expr → Reader Expr
-unfolding operator binops pure _>>=_
+unfolding operator binops succeed _>>=_
 binopOf r = do
   o ← operator operatorBits binops
   a ← r
   b ← r
-  pure (binop o a b)
+  succeed (binop o a b)
 
 unfoldable pub unopOf : Reader Expr → Reader Expr
-unfolding operator unops pure _>>=_
+unfolding operator unops succeed _>>=_
 unopOf r = do
   o ← operator operatorBits unops
   a ← r
-  pure (unop o a)
+  succeed (unop o a)
 
 unfoldable pub incdecOf : ℕ → Reader Expr
-unfolding bits nameOf isOne pure _>>=_
+unfolding bits nameOf isOne succeed _>>=_
 incdecOf n = do
   i ← bits flagBits
   x ← nameOf n
-  pure (Expr.incdec (isOne i) x)
+  succeed (Expr.incdec (isOne i) x)
 
 unfoldable pub identOf : ℕ → Reader Expr
-unfolding nameOf pure _>>=_
+unfolding nameOf succeed _>>=_
 identOf n = do
   x ← nameOf n
-  pure (ident x)
+  succeed (ident x)
 
 unfoldable pub numberOf : Reader Expr
-unfolding bits signed pure _>>=_
+unfolding bits signed succeed _>>=_
 numberOf = do
   v ← bits numberBits
-  pure (number (signed v))
+  succeed (number (signed v))
 
 unfoldable pub stringOf : Reader Expr
-unfolding bits many pure _>>=_
+unfolding bits many succeed _>>=_
 stringOf = do
   l ← bits stringLengthBits
   t ← many l (bits charBits)
-  pure (string t)
+  succeed (string t)
 
 unfoldable pub exprKinds : ℕ → Reader Expr → List (Reader Expr)
 unfolding binopOf unopOf incdecOf identOf numberOf stringOf
 exprKinds n r = binopOf r ∷ unopOf r ∷ incdecOf n ∷ identOf n ∷ numberOf ∷ stringOf ∷ []
 
 unfoldable pub gotoOf : Reader Expr → Reader (Block → Block)
-unfolding pure _>>=_
+unfolding succeed _>>=_
 gotoOf r = do
   e ← r
-  pure (goto e)
+  succeed (goto e)
 
 unfoldable pub iteOf : Reader Expr → Reader (Block → Block) → Reader (Block → Block)
-unfolding bits block pure _>>=_
+unfolding bits block succeed _>>=_
 iteOf r q = do
   c ← r
   i ← bits listBits
   t ← block i q
   j ← bits listBits
   e ← block j q
-  pure (ite c t e)
+  succeed (ite c t e)
 
 unfoldable pub stepOf : ℕ → Reader (Block → Block)
-unfolding bits nameOf isOne pure _>>=_
+unfolding bits nameOf isOne succeed _>>=_
 stepOf n = do
   i ← bits flagBits
   x ← nameOf n
-  pure (Block.incdec (isOne i) x)
+  succeed (Block.incdec (isOne i) x)
 
 unfoldable pub assignOf : ℕ → Reader Expr → Reader (Block → Block)
-unfolding nameOf operator assignops pure _>>=_
+unfolding nameOf operator assignops succeed _>>=_
 assignOf n r = do
   x ← nameOf n
   o ← operator assignBits assignops
   e ← r
-  pure (assign x o e)
+  succeed (assign x o e)
 
 unfoldable pub stmtKinds : ℕ → Reader Expr → Reader (Block → Block) → List (Reader (Block → Block))
 unfolding gotoOf iteOf stepOf assignOf
@@ -221,17 +221,17 @@ known x [] = false
 known x (y ∷ ys) = elim (sameName x y) [ true ↦ true | false ↦ known x ys ]
 
 unfoldable pub name : Reader Name
-unfolding bits isOne many pure _>>=_
+unfolding bits isOne many succeed _>>=_
 name = do
   g ← bits flagBits
   l ← bits nameLengthBits
   t ← many (suc l) (bits charBits)
-  pure (record { isGlobal = isOne g; chars = t })
+  succeed (record { isGlobal = isOne g; chars = t })
 
 -- n more names behind those in `before`: 6 at the second of two equal ones
 unfoldable pub names : ℕ → List Name → Reader (List Name)
-unfolding name known demand pure _>>=_
-names zero before = pure before
+unfolding name known demand succeed _>>=_
+names zero before = succeed before
 names (suc n) before = do
   x ← name
   _ ← demand (not (known x before)) Refusal.equalNames
@@ -259,12 +259,12 @@ lineBlock n = do
 
 -- n names, then l lines, then the end
 unfoldable pub body : ℕ → ℕ → Reader Tree
-unfolding names many lineBlock fill pure _>>=_
+unfolding names many lineBlock fill succeed _>>=_
 body l n = do
   t ← names n []
   b ← many l (lineBlock n)
   _ ← fill
-  pure (record { names = t; lines = b })
+  succeed (record { names = t; lines = b })
 
 unfoldable pub file : Reader Tree
 unfolding bits demand body _>>=_

@@ -37,9 +37,9 @@ pub record Counts : Type 0 where
 -- ---- the rules
 
 -- does every element pass?
-unfoldable pub all : {A : Type 0} → (A → Bool) → List A → Bool
-all p [] = true
-all p (x ∷ xs) = elim (p x) [ false ↦ false | true ↦ all p xs ]
+unfoldable pub allb : {A : Type 0} → (A → Bool) → List A → Bool
+allb p [] = true
+allb p (x ∷ xs) = elim (p x) [ false ↦ false | true ↦ allb p xs ]
 
 -- a field of a kind: a register below its table's count, a section below theirs, an unused field 0
 unfoldable pub fieldFits : Counts → Kind → ℕ → Bool
@@ -106,10 +106,10 @@ countsFit t u =
 
 -- all counted words
 unfoldable pub wordsFit : Tables → Counts → Bool
-unfolding all insFits runsFit spanFits nameFits
+unfolding allb insFits runsFit spanFits nameFits
 wordsFit t u =
-    all (insFits u) (take (u .instrs) (t .instrs)) && runsFit u 0 0 (take (u .sections) (t .sections))
-    && all (spanFits u) (take (u .strings) (t .strings)) && all (nameFits u) (take (u .names) (t .names))
+    allb (insFits u) (take (u .instrs) (t .instrs)) && runsFit u 0 0 (take (u .sections) (t .sections))
+    && allb (spanFits u) (take (u .strings) (t .strings)) && allb (nameFits u) (take (u .names) (t .names))
 
 -- the rules of a machine, as a decision
 unfoldable pub fits : Tables → Counts → Bool

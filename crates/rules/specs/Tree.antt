@@ -51,8 +51,8 @@ pub record Tally : Type 0 where
   pub characters : ℕ
 
 -- nothing
-unfoldable pub none : Tally
-none = record { statements = 0; nodes = 0; strings = 0; characters = 0 }
+unfoldable pub emptyTally : Tally
+emptyTally = record { statements = 0; nodes = 0; strings = 0; characters = 0 }
 
 -- two parts together
 unfoldable pub both : Tally → Tally → Tally
@@ -69,25 +69,25 @@ statement a = let b = node a in record { statements = suc (b .statements); nodes
 
 -- an expression
 unfoldable pub ofExpr : Expr → Tally
-unfolding node both none
+unfolding node both emptyTally
 ofExpr (binop o l r) = node (both (ofExpr l) (ofExpr r))
 ofExpr (unop o r) = node (ofExpr r)
-ofExpr (incdec i x) = node none
-ofExpr (ident x) = node none
-ofExpr (number n) = node none
+ofExpr (incdec i x) = node emptyTally
+ofExpr (ident x) = node emptyTally
+ofExpr (number n) = node emptyTally
 ofExpr (string t) = record { statements = 0; nodes = 1; strings = 1; characters = length t }
 
 -- a list of statements
 unfoldable pub ofBlock : Block → Tally
-unfolding statement both none ofExpr
-ofBlock end = none
+unfolding statement both emptyTally ofExpr
+ofBlock end = emptyTally
 ofBlock (goto e s) = both (statement (ofExpr e)) (ofBlock s)
 ofBlock (ite c t e s) = both (statement (both (ofExpr c) (both (ofBlock t) (ofBlock e)))) (ofBlock s)
-ofBlock (incdec i x s) = both (statement none) (ofBlock s)
+ofBlock (incdec i x s) = both (statement emptyTally) (ofBlock s)
 ofBlock (assign x o e s) = both (statement (ofExpr e)) (ofBlock s)
 
 -- all lines
 unfoldable pub ofLines : List Block → Tally
-unfolding ofBlock both none
-ofLines [] = none
+unfolding ofBlock both emptyTally
+ofLines [] = emptyTally
 ofLines (b ∷ bs) = both (ofBlock b) (ofLines bs)

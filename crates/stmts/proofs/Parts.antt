@@ -5,7 +5,7 @@ use mathlib.Core.List.{List, [], _∷_, _++_}
 use Prim.Native.Nat.{ℕ, suc, _+_}
 use native.Mathlib.Numerals.{add-one}
 use native.Mathlib.Omega.{arith}
-use Rattle.rules.specs.Tree.{Block, end, ite, assign, Expr, Assignop, ofBlock, statement, node, both, none}
+use Rattle.rules.specs.Tree.{Block, end, ite, assign, Expr, Assignop, ofBlock, statement, node, both, emptyTally}
 use Rattle.rules.specs.Instr.{Instruction}
 use Rattle.rules.specs.Machine.{section, line}
 use Rattle.rules.specs.Script.{Stmts, nil, isNil}
@@ -32,7 +32,7 @@ pub record OneParts (x : Block) : Type 0 where
   pub characters : ofBlock x .characters ≡ ofBlock (bare x) .characters + insideTally x .characters
 
 pub one-parts : (x : Block) → OneParts (only x)
-unfolding only bare insideTally ofBlock statement node both none
+unfolding only bare insideTally ofBlock statement node both emptyTally
 one-parts end = record { nodes = refl; strings = refl; characters = refl }
 one-parts (Block.goto e xs) = record { nodes = omega arith; strings = omega arith; characters = omega arith }
 one-parts (ite c t f xs) = record { nodes = omega arith; strings = omega arith; characters = omega arith }
@@ -41,7 +41,7 @@ one-parts (assign x o e xs) = record { nodes = omega arith; strings = omega arit
 
 -- what is no Ite holds nothing
 pub none-inside : (x : Block) → (tag x + 8 ≡ iteKind → ⊥) → (insideTally x .strings ≡ 0) × (insideTally x .characters ≡ 0)
-unfolding insideTally tag none
+unfolding insideTally tag emptyTally
 none-inside end h = (refl, refl)
 none-inside (Block.goto e xs) h = (refl, refl)
 none-inside (ite v x y xs) h = absurd (h refl)

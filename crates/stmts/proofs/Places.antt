@@ -9,7 +9,7 @@ use lib.ListN.{length, getD}
 use borrow.Author.Tests.{eq-eqb, ne-eqb}
 use Rattle.rules.specs.Constants.{mostBytes}
 use Rattle.rules.specs.Bits.{isOne}
-use Rattle.rules.specs.Tree.{Block, end, goto, ite, assign, Expr, Assignop, PowTo, ofBlock, ofExpr, statement, node, both, none}
+use Rattle.rules.specs.Tree.{Block, end, goto, ite, assign, Expr, Assignop, PowTo, ofBlock, ofExpr, statement, node, both, emptyTally}
 use Rattle.rules.specs.Parse.{assignops}
 use Rattle.nodes.specs.Words.{iteKind, gotoKind, stepKind, assignKind}
 use Rattle.nodes.specs.Width.{width, orOne}
@@ -181,7 +181,7 @@ pub record Sum (e : Expr) (x y b : Block) : Type 0 where
   pub deep-else : deep y < deep b
 
 pub ite-sum : (e : Expr) (x y b : Block) → b ≡ ite e x y end → Sum e x y b
-unfolding ofBlock statement node both none width deep
+unfolding ofBlock statement node both emptyTally width deep
 ite-sum e x y b q = rw q (record { nodes = omega arith; strings = omega arith; characters = omega arith; widths = omega arith; deep-then = omega arith; deep-else = omega arith })
 
 -- a statement with an expression and no lists, and one without either
@@ -192,13 +192,13 @@ pub record One (n s h : ℕ) (b : Block) : Type 0 where
   pub widths : width b ≡ 1
 
 pub goto-sum : (e : Expr) (b : Block) → b ≡ goto e end → One (ofExpr e .nodes) (ofExpr e .strings) (ofExpr e .characters) b
-unfolding ofBlock statement node both none width
+unfolding ofBlock statement node both emptyTally width
 goto-sum e b q = rw q (record { nodes = omega arith; strings = omega arith; characters = omega arith; widths = omega arith })
 
 pub assign-sum : (x : ℕ) (o : Assignop) (e : Expr) (b : Block) → b ≡ assign x o e end → One (ofExpr e .nodes) (ofExpr e .strings) (ofExpr e .characters) b
-unfolding ofBlock statement node both none width
+unfolding ofBlock statement node both emptyTally width
 assign-sum x o e b q = rw q (record { nodes = omega arith; strings = omega arith; characters = omega arith; widths = omega arith })
 
 pub step-sum : (f : Bool) (x : ℕ) (b : Block) → b ≡ Block.incdec f x end → One 0 0 0 b
-unfolding ofBlock statement node both none width
+unfolding ofBlock statement node both emptyTally width
 step-sum f x b q = rw q (record { nodes = omega arith; strings = omega arith; characters = omega arith; widths = omega arith })

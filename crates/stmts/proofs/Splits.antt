@@ -7,7 +7,7 @@ use native.Mathlib.Omega.{arith}
 use lib.ListN.{length, getD}
 use borrow.Author.Tests.{eq-eqb, ne-eqb}
 use Rattle.rules.specs.Constants.{mostBytes}
-use Rattle.rules.specs.Tree.{Block, end, ite, assign, ofBlock, statement, node, both, none}
+use Rattle.rules.specs.Tree.{Block, end, ite, assign, ofBlock, statement, node, both, emptyTally}
 use Rattle.rules.specs.Parse.{assignops}
 use Rattle.nodes.specs.Words.{iteKind, gotoKind, stepKind, assignKind}
 use Rattle.nodes.specs.Width.{width}
@@ -28,7 +28,7 @@ pub record Parts (x : Block) : Type 0 where
   pub rest-deep : deep (rest x) ≤ deep x
 
 pub parts : (x : Block) → Parts x
-unfolding ofBlock statement node both none width deep only rest
+unfolding ofBlock statement node both emptyTally width deep only rest
 parts end = record { nodes = refl; strings = refl; characters = refl; widths = refl; first-deep = omega arith; rest-deep = omega arith }
 parts (Block.goto e xs) = record { nodes = omega arith; strings = omega arith; characters = omega arith; widths = omega arith; first-deep = omega arith; rest-deep = omega arith }
 parts (ite c t f xs) = record { nodes = omega arith; strings = omega arith; characters = omega arith; widths = omega arith; first-deep = omega arith; rest-deep = omega arith }

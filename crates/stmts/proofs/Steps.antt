@@ -5,7 +5,7 @@ use mathlib.Core.List.{List}
 use Prim.Native.Nat.{ℕ, _+_, _-_, _/_, _≤_, _<_}
 use native.Mathlib.Omega.{arith}
 use lib.ListN.{length, getD}
-use Rattle.rules.specs.Tree.{Block, ofBlock, none}
+use Rattle.rules.specs.Tree.{Block, ofBlock, emptyTally}
 use Rattle.nodes.specs.Width.{width}
 use Rattle.nodes.specs.Holds.{HoldsB}
 use Rattle.nodes.proofs.Blocks.{is-end}
@@ -83,7 +83,7 @@ module _ {s t : List ℕ} {i0 count depth n0 k : ℕ} {l0 : Bool} {c0 : Counters
       }
 
   pub list-end : {m z : ℕ} {x : Block} → left ≤ 0 → m ≤ 256 → HoldsB t s m count i0 x z → ListDone m x z l0 n0 k c0 t0 t1 se0 se c i n
-  unfolding ofBlock none width
+  unfolding ofBlock emptyTally width
   list-end h a q =
       let u = mid .going _ _ _ a q in
       let e = is-end (u .held) (omega arith) in

@@ -6,7 +6,7 @@ use Prim.Native.Nat.{ℕ, suc, _+_, _≤_, _<_}
 use lib.ListN.{length}
 use Rattle.rules.specs.Instr.{Instruction}
 use Rattle.rules.specs.Constants.{mostBytes}
-use Rattle.rules.specs.Tree.{Block, end, ite, assign, Tally, ofBlock, both, none}
+use Rattle.rules.specs.Tree.{Block, end, ite, assign, Tally, ofBlock, both, emptyTally}
 use Rattle.rules.specs.Machine.{SectionCode, section, line}
 use Rattle.rules.specs.Script.{Stmts, nil}
 use Rattle.rules.specs.Assemble.{orEmpty, stmtSections, inner, link}
@@ -81,11 +81,11 @@ insideSections l e n k (assign x o v xs) p = []
 
 -- what they count
 unfoldable pub insideTally : Block → Tally
-insideTally end = none
-insideTally (Block.goto e xs) = none
+insideTally end = emptyTally
+insideTally (Block.goto e xs) = emptyTally
 insideTally (ite c t f xs) = both (ofBlock t) (ofBlock f)
-insideTally (Block.incdec i x xs) = none
-insideTally (assign x o e xs) = none
+insideTally (Block.incdec i x xs) = emptyTally
+insideTally (assign x o e xs) = emptyTally
 
 -- ---- what the functions ask and give
 

@@ -14,7 +14,7 @@ use Rattle.rules.specs.Bits.{Res, refused, ok}
 use Rattle.rules.specs.Refusal as Refusal
 use Rattle.rules.specs.Word.{Span, insWord, wordSpan, spanWord, spanSpare}
 use Rattle.rules.specs.Machine.{SectionCode, Machine}
-use Rattle.rules.specs.Tables.{Tables, Counts, all, spanFits, fits, decode, runWords, allCode, countsOf}
+use Rattle.rules.specs.Tables.{Tables, Counts, allb, spanFits, fits, decode, runWords, allCode, countsOf}
 use Rattle.rules.specs.Operations.{put, write, change}
 use Rattle.laws.specs.Words.{span-again}
 use Rattle.tables.specs.Runs.{held}
@@ -115,11 +115,11 @@ spare-zero u w e = go (eqb (spanSpare w) 0) refl e
     go true d h = eqb-true _ _ d
     go false d h = absurd (no (rw d at h))
 
-spans-back : (u : Counts) (ws : List ℕ) → ((i : ℕ) → getD ws i 0 < 2 ^ 32) → all (spanFits u) ws ≡ true → map spanWord (map wordSpan ws) ≡ ws
+spans-back : (u : Counts) (ws : List ℕ) → ((i : ℕ) → getD ws i 0 < 2 ^ 32) → allb (spanFits u) ws ≡ true → map spanWord (map wordSpan ws) ≡ ws
 spans-back u [] b e = refl
 spans-back u (w ∷ ws) b e = by (spanFits u w) refl (λ d. spans-back u ws (λ i. b (suc i)) d)
   where
-    by : (c : Bool) → spanFits u w ≡ c → (all (spanFits u) ws ≡ true → map spanWord (map wordSpan ws) ≡ ws) → spanWord (wordSpan w) ∷ map spanWord (map wordSpan ws) ≡ w ∷ ws
+    by : (c : Bool) → spanFits u w ≡ c → (allb (spanFits u) ws ≡ true → map spanWord (map wordSpan ws) ≡ ws) → spanWord (wordSpan w) ∷ map spanWord (map wordSpan ws) ≡ w ∷ ws
     by true d ih = rw (span-again w (b 0) (spare-zero u w d), ih (sym (all-cons (spanFits u) w ws true d) ∙ e))
     by false d ih = absurd (no (sym (all-cons (spanFits u) w ws false d) ∙ e))
 

@@ -9,7 +9,7 @@ use lib.ListN.{length, take, drop}
 use borrow.Author.Tests.{eqb-true}
 use Rattle.rules.specs.Word.{wordRun, runWord}
 use Rattle.rules.specs.Machine.{SectionOrLine, SectionCode}
-use Rattle.rules.specs.Tables.{Tables, Counts, all, runsFit, readSections, runOf, runWords, allCode}
+use Rattle.rules.specs.Tables.{Tables, Counts, allb, runsFit, readSections, runOf, runWords, allCode}
 use Rattle.words.specs.Runs as Runs
 use Rattle.tables.specs.Rules.{sectionFits}
 use Rattle.tables.specs.Runs.{countOf, total, sectionOf}
@@ -60,14 +60,14 @@ code-cons s ss = refl
 
 -- ---- all
 
-pub all-nil : {A : Type 0} (p : A → Bool) → all p [] ≡ true
-unfolding all
+pub all-nil : {A : Type 0} (p : A → Bool) → allb p [] ≡ true
+unfolding allb
 all-nil p = refl
 
-pub all-cons : {A : Type 0} (p : A → Bool) (x : A) (xs : List A) (b : Bool) → p x ≡ b → all p (x ∷ xs) ≡ cond b (all p xs) false
-unfolding all
-all-cons p x xs true e = rw (e, all)
-all-cons p x xs false e = rw (e, all)
+pub all-cons : {A : Type 0} (p : A → Bool) (x : A) (xs : List A) (b : Bool) → p x ≡ b → allb p (x ∷ xs) ≡ cond b (allb p xs) false
+unfolding allb
+all-cons p x xs true e = rw (e, allb)
+all-cons p x xs false e = rw (e, allb)
 
 -- ---- the runs' total
 

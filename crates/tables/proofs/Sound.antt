@@ -8,7 +8,7 @@ use lib.Dec.{ltb, leb}
 use lib.ListN.{length, take}
 use borrow.Author.Tests.{leb-true, ltb-true}
 use Rattle.rules.specs.Constants.{mostLines, mostCount}
-use Rattle.rules.specs.Tables.{Tables, Counts, all, insFits, runsFit, spanFits, nameFits, countFits, countsFit, wordsFit, fits}
+use Rattle.rules.specs.Tables.{Tables, Counts, allb, insFits, runsFit, spanFits, nameFits, countFits, countsFit, wordsFit, fits}
 
 pub no : _≡_ {A = Bool} false true → ⊥
 no e = let z : _≡_ {A = ℕ} 0 1 = cc in omega arith
@@ -102,10 +102,10 @@ counted t u e =
 
 pub record Sound (t : Tables) (u : Counts) : Type 0 where
   pub counts : Counted t u
-  pub instrs : all (insFits u) (take (u .instrs) (t .instrs)) ≡ true
+  pub instrs : allb (insFits u) (take (u .instrs) (t .instrs)) ≡ true
   pub runs : runsFit u 0 0 (take (u .sections) (t .sections)) ≡ true
-  pub spans : all (spanFits u) (take (u .strings) (t .strings)) ≡ true
-  pub names : all (nameFits u) (take (u .names) (t .names)) ≡ true
+  pub spans : allb (spanFits u) (take (u .strings) (t .strings)) ≡ true
+  pub names : allb (nameFits u) (take (u .names) (t .names)) ≡ true
 
 module _ (t : Tables) (u : Counts) where
   by-counts : (b : Bool) → countsFit t u ≡ b → fits t u ≡ true → (b ≡ true) × (wordsFit t u ≡ true)
@@ -118,8 +118,8 @@ module _ (t : Tables) (u : Counts) where
   sound h =
       let w = by-counts _ refl h in
       let s =
-      each (all (insFits u) (take (u .instrs) (t .instrs)))
-      (runsFit u 0 0 (take (u .sections) (t .sections)) ∷ all (spanFits u) (take (u .strings) (t .strings)) ∷ all (nameFits u) (take (u .names) (t .names)) ∷ [])
+      each (allb (insFits u) (take (u .instrs) (t .instrs)))
+      (runsFit u 0 0 (take (u .sections) (t .sections)) ∷ allb (spanFits u) (take (u .strings) (t .strings)) ∷ allb (nameFits u) (take (u .names) (t .names)) ∷ [])
       (w .1)
       in
       record { counts = counted t u (w .0); instrs = s .0; runs = s .1 .0; spans = s .1 .1 .0; names = s .1 .1 .1 .0 }

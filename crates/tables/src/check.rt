@@ -3,7 +3,7 @@
 ghost use mathlib.Core.Path.{_≡_};
 ghost use Prim.Native.Nat.{_≤_};
 ghost use lib.ListN.{length, take};
-ghost use Rattle.rules.specs.Tables.{all, insFits, runsFit, spanFits, nameFits, fits};
+ghost use Rattle.rules.specs.Tables.{allb, insFits, runsFit, spanFits, nameFits, fits};
 ghost use Rattle.tables.specs.Lent.{countsTold, tables};
 use crate::counts::Counts;
 use crate::counts::counts_fit;
@@ -17,7 +17,7 @@ use words::text::StringWord;
 
 fn instructions_fit(c: Counts, t: &[u64]) -> bool
     requires { ⌜ c .instructions ≤ length (now t) ⌝ }
-    ensures { λ r. ⌜ r ≡ all (insFits (countsTold c)) (take (c .instructions) (now (t .entry))) ⌝ }
+    ensures { λ r. ⌜ r ≡ allb (insFits (countsTold c)) (take (c .instructions) (now (t .entry))) ⌝ }
 {
     let mut i: usize = 0;
     while i < c.instructions {
@@ -49,7 +49,7 @@ fn sections_fit(c: Counts, t: &[u64]) -> bool
 
 fn strings_fit(c: Counts, t: &[u32]) -> bool
     requires { ⌜ c .strings ≤ length (now t) ⌝ }
-    ensures { λ r. ⌜ r ≡ all (spanFits (countsTold c)) (take (c .strings) (now (t .entry))) ⌝ }
+    ensures { λ r. ⌜ r ≡ allb (spanFits (countsTold c)) (take (c .strings) (now (t .entry))) ⌝ }
 {
     let mut i: usize = 0;
     while i < c.strings {
@@ -63,7 +63,7 @@ fn strings_fit(c: Counts, t: &[u32]) -> bool
 
 fn names_fit(c: Counts, t: &[u16]) -> bool
     requires { ⌜ c .names ≤ length (now t) ⌝ }
-    ensures { λ r. ⌜ r ≡ all (nameFits (countsTold c)) (take (c .names) (now (t .entry))) ⌝ }
+    ensures { λ r. ⌜ r ≡ allb (nameFits (countsTold c)) (take (c .names) (now (t .entry))) ⌝ }
 {
     let mut i: usize = 0;
     while i < c.names {

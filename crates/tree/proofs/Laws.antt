@@ -10,7 +10,7 @@ use lib.ListN.{length, getD, set}
 use Rattle.rules.specs.Constants.{mostBytes, mostDepth, form, headBits, nameBits, byteBits}
 use Rattle.rules.specs.Refusal.{otherForm, zeroLines, leftOver, tooLong}
 use Rattle.rules.specs.Bits.{Res, refused, ok}
-use Rattle.rules.specs.Tree.{Block, Tree, ofLines, both, none}
+use Rattle.rules.specs.Tree.{Block, Tree, ofLines, both, emptyTally}
 use Rattle.rules.specs.Parse.{Reader, At, bits, names, many, left, fill, lineBlock, body, file, parse, demand, _>>=_}
 use Rattle.rules.specs.Operations.{size, sizeOf}
 use Rattle.bits.specs.Reads.{Gives, Fine, Took, at}
@@ -47,7 +47,7 @@ module _ {s : List ℕ} {c d : Cursor} {w v : ℕ} (l : byteBits * length s - c 
   fill-bits e = from-left w l (then _ (passes leftOver (lt-ltb w byteBits h)) (then _ (t .reads) (fails (ne-eqb v 0 e))))
 
   pub fill-ok : v ≡ 0 → Ended s c 0 d
-  fill-ok e = record { reads = from-left w l (then _ (passes leftOver (lt-ltb w byteBits h)) (then _ (t .reads) (passes leftOver (eq-eqb v 0 e)))); none = refl; moved = t .moved; fine = t .fine }
+  fill-ok e = record { reads = from-left w l (then _ (passes leftOver (lt-ltb w byteBits h)) (then _ (t .reads) (passes leftOver (eq-eqb v 0 e)))); emptyTally = refl; moved = t .moved; fine = t .fine }
 
 -- the bits that are left are there
 pub fill-there : {s : List ℕ} {c : Cursor} {w x : ℕ} → byteBits * length s - c .pos ≡ w → Fine s c → Gives (bits w) s (at c) (refused x) → ⊥
@@ -128,7 +128,7 @@ module _ {n total : ℕ} {s t ls : List ℕ} {c d : Cursor} {k : ℕ} (m : Lines
   lines-stop {x} h g = m .stops x (many-stop (total - k) (omega arith) (line-from n g))
 
   pub lines-done : total ≤ k → k ≤ total → Lined n total s t ls c d
-  unfolding ofLines none widths
+  unfolding ofLines emptyTally widths
   lines-done h l =
       record {
         val = m .pre [];

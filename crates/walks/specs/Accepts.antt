@@ -16,7 +16,7 @@ use Rattle.rules.specs.Machine.{SectionOrLine, unfixed, section, line, SectionC
 use Rattle.rules.specs.Script.{Stmts, nil, plain, goto, ite, Script}
 use Rattle.rules.specs.Assemble.{nextLine, orOne, sectionsMade, ownCode, entry, link, condJump, condCode, inner, orEmpty, stmtSections, headOf, tailOf, lineSections, heads, tails, sectionsOf}
 use Rattle.rules.specs.Clean.{renNext, ren, keep, rank, cleanSections}
-use Rattle.rules.specs.Tables.{all}
+use Rattle.rules.specs.Tables.{allb}
 use Rattle.rules.specs.Operations.{fixedHere, jumpFixed, jumpsFixed, nextAhead, allAhead}
 use Rattle.rules.specs.Demand.{All}
 use Rattle.walks.specs.LowerWalk.{length-low, length-orEmpty, SameAs, Stands, fits-cast, fits-left, fits-right, base, line-fits, at-head, fits-tail, nextLine-lt, lower-fixed, heads-length, length-tailOf}
@@ -24,10 +24,10 @@ use Rattle.walks.specs.CombineWalk.{Fixed, Ready}
 use Rattle.walks.specs.Fits.{AllAt}
 use Rattle.walks.specs.Shape.{all-of}
 
-pub all-true : {A : Type 0} (p : A → Bool) (l : List A) → All (λ a. p a ≡ true) l → all p l ≡ true
-unfolding all
+pub all-true : {A : Type 0} (p : A → Bool) (l : List A) → All (λ a. p a ≡ true) l → allb p l ≡ true
+unfolding allb
 all-true p [] h = refl
-all-true p (x ∷ l) h = ap (λ (b : Bool). elim b as (λ z. Bool) [ false ↦ false | true ↦ all p l ]) (h .0) ∙ all-true p l (h .1)
+all-true p (x ∷ l) h = ap (λ (b : Bool). elim b as (λ z. Bool) [ false ↦ false | true ↦ allb p l ]) (h .0) ∙ all-true p l (h .1)
 
 all-append : {A : Type 0} (P : A → Type 0) (a b : List A) → All P a → All P b → All P (a ++ b)
 all-append P [] b p q = q
@@ -35,10 +35,10 @@ all-append P (i ∷ a) b p q = (p .0, all-append P a b (p .1) q)
 
 -- ---- 14: no section is unfixed
 
-pub all-fixed : (m : List SectionCode) → Fixed m → all fixedHere m ≡ true
-unfolding all fixedHere
+pub all-fixed : (m : List SectionCode) → Fixed m → allb fixedHere m ≡ true
+unfolding allb fixedHere
 all-fixed [] h = refl
-all-fixed (s ∷ m) h = ap (λ (b : Bool). elim b as (λ z. Bool) [ false ↦ false | true ↦ all fixedHere m ]) (h .0) ∙ all-fixed m (h .1)
+all-fixed (s ∷ m) h = ap (λ (b : Bool). elim b as (λ z. Bool) [ false ↦ false | true ↦ allb fixedHere m ]) (h .0) ∙ all-fixed m (h .1)
 
 -- ---- 13: the lines' first sections are fixed, and so is what a jump leads to
 
@@ -159,7 +159,7 @@ unfolding jumpsFixed
 sects-test m [] h = tt
 sects-test m (s ∷ l) h = (all-true (jumpFixed m) (s .instrs) (code-test m (s .instrs) (h .0)), sects-test m l (h .1))
 
-pub clean-test : (t : Script) → 0 < length t → (all fixedHere (take (length t) (sectionsOf t)) && all (jumpsFixed (sectionsOf t)) (sectionsOf t)) ≡ true
+pub clean-test : (t : Script) → 0 < length t → (allb fixedHere (take (length t) (sectionsOf t)) && allb (jumpsFixed (sectionsOf t)) (sectionsOf t)) ≡ true
 unfolding fixedHere
 clean-test t pos =
     let m = sectionsOf t in

@@ -15,7 +15,7 @@ use Rattle.rules.specs.Tree.{Tree}
 use Rattle.rules.specs.Parse.{parse}
 use Rattle.rules.specs.Instr.{fall, Instruction, isJump}
 use Rattle.rules.specs.Machine.{SectionOrLine, unfixed, section, line, SectionCode, absent, isFixed, Machine}
-use Rattle.rules.specs.Tables.{Tables, Counts, countsOf, all, allCode}
+use Rattle.rules.specs.Tables.{Tables, Counts, countsOf, allb, allCode}
 use Rattle.rules.specs.Assemble.{sectionsOf}
 use Rattle.rules.specs.Reading.{script}
 use Rattle.rules.specs.Clean.{renNext, cleanSections, cleaned}
@@ -145,7 +145,7 @@ combine-again o s t e l =
     let lim = limits s t e in
     let m = finished o t in
     let f = finished-sections o t lim in
-    let fixed : all fixedHere (m .sections) ≡ true = ap (all fixedHere) f ∙ all-fixed (F o t lim) (F-ready o t lim .fixed) in
+    let fixed : allb fixedHere (m .sections) ≡ true = ap (allb fixedHere) f ∙ all-fixed (F o t lim) (F-ready o t lim .fixed) in
     let ahead : allAhead (m .sections) 0 (m .sections) ≡ true = ap (λ (z : List SectionCode). allAhead z 0 z) f ∙ F-ahead o t lim in
     let stays : combineSections (m .sections) ≡ m .sections = combine-stays (m .sections) (demand3 o s t e [] .noPair) in
     ap₂
@@ -161,8 +161,8 @@ clean-again o s t e l =
     let lim = limits s t e in
     let m = finished o t in
     let f = finished-sections o t lim in
-    let test : (all fixedHere (take (m .lines) (m .sections)) && all (jumpsFixed (m .sections)) (m .sections)) ≡ true =
-    ap (λ (z : List SectionCode). all fixedHere (take (m .lines) z) && all (jumpsFixed z) z) f
+    let test : (allb fixedHere (take (m .lines) (m .sections)) && allb (jumpsFixed (m .sections)) (m .sections)) ≡ true =
+    ap (λ (z : List SectionCode). allb fixedHere (take (m .lines) z) && allb (jumpsFixed z) z) f
     ∙ ap₂ (λ (a b : Bool). a && b) (all-fixed (take (m .lines) (F o t lim)) (fixed-take o t lim (m .lines) (F o t lim) (F-ready o t lim .fixed))) (all-true (jumpsFixed (F o t lim)) (F o t lim) (sects-test (F o t lim) (F o t lim) (sects-jumps o t lim (F o t lim) (F-aims o t lim))))
     in
     ap (λ (b : Bool). elim b as (λ z. Res Machine) [ true ↦ ok (cleaned m) | false ↦ refused Refusal.needsUnfixed ]) test

@@ -25,7 +25,7 @@ unfolding both
 few-both j k p q = record { statements = omega arith; strings = omega arith }
 
 few-expr : (e : Expr) → (ofExpr e .statements ≡ 0) × (ofExpr e .strings ≤ ofExpr e .nodes)
-unfolding ofExpr node both Tree.none
+unfolding ofExpr node both Tree.emptyTally
 few-expr (binop o l r) = (omega (arith, few-expr l .0, few-expr r .0), omega (arith, few-expr l .1, few-expr r .1))
 few-expr (unop o r) = (few-expr r .0, omega (arith, few-expr r .1))
 few-expr (Expr.incdec b x) = (refl, omega arith)
@@ -34,7 +34,7 @@ few-expr (number z) = (refl, omega arith)
 few-expr (string t) = (refl, omega arith)
 
 few-block : (b : Block) → Few (ofBlock b)
-unfolding ofBlock statement node both Tree.none
+unfolding ofBlock statement node both Tree.emptyTally
 few-block end = record { statements = omega arith; strings = omega arith }
 few-block (goto e s) = let p = few-expr e in let q = few-block s in record { statements = omega (arith, p .0, q .statements); strings = omega (arith, p .1, q .strings) }
 few-block (ite c t e s) =
@@ -47,7 +47,7 @@ few-block (Block.incdec i x s) = let q = few-block s in record { statements = om
 few-block (assign x o e s) = let p = few-expr e in let q = few-block s in record { statements = omega (arith, p .0, q .statements); strings = omega (arith, p .1, q .strings) }
 
 pub few-lines : (bs : List Block) → Few (ofLines bs)
-unfolding ofLines Tree.none
+unfolding ofLines Tree.emptyTally
 few-lines [] = record { statements = omega arith; strings = omega arith }
 few-lines (b ∷ bs) = few-both (ofBlock b) (ofLines bs) (few-block b) (few-lines bs)
 

@@ -15,7 +15,7 @@ use Rattle.laws.specs.Words as Words
 use Rattle.rules.specs.Word.{unpack, insWord, wordIns, insSpare, Run, runWord, wordRun, runSpare, Span, spanWord, wordSpan, spanSpare}
 use Rattle.rules.specs.Constants.{stringLayout, mark}
 use Rattle.rules.specs.Machine.{SectionOrLine, unfixed, section, line, SectionCode, isFixed, Machine}
-use Rattle.rules.specs.Tables.{Tables, Counts, all, fieldFits, insFits, successOf, successFits, startFits, runsFit, spanFits, nameFits, countFits, countsFit, wordsFit, fits, flag, kindOf, targetOf, runOf, runWords, allCode, encode, countsOf}
+use Rattle.rules.specs.Tables.{Tables, Counts, allb, fieldFits, insFits, successOf, successFits, startFits, runsFit, spanFits, nameFits, countFits, countsFit, wordsFit, fits, flag, kindOf, targetOf, runOf, runWords, allCode, encode, countsOf}
 use Rattle.rules.specs.Demand.{All, FieldBelow, FieldsBelow, RegistersBelow}
 use Rattle.walks.specs.Estimate.{codeLen, code-length}
 
@@ -24,10 +24,10 @@ use Rattle.walks.specs.Estimate.{codeLen, code-length}
 both-true : (a b : Bool) → a ≡ true → b ≡ true → (a && b) ≡ true
 both-true a b p q = ap₂ (λ (x y : Bool). x && y) p q
 
-all-true : {A : Type 0} (p : A → Bool) (l : List A) → All (λ a. p a ≡ true) l → all p l ≡ true
-unfolding all
+all-true : {A : Type 0} (p : A → Bool) (l : List A) → All (λ a. p a ≡ true) l → allb p l ≡ true
+unfolding allb
 all-true p [] h = refl
-all-true p (x ∷ l) h = ap (λ (b : Bool). elim b [ false ↦ false | true ↦ all p l ]) (h .0) ∙ all-true p l (h .1)
+all-true p (x ∷ l) h = ap (λ (b : Bool). elim b [ false ↦ false | true ↦ allb p l ]) (h .0) ∙ all-true p l (h .1)
 
 -- ---- instructions
 
@@ -299,10 +299,10 @@ module _ (m : Machine) (f : MachineFit m) (l : Tables) (h : InTables l m) where
       let ss = m .sections in
       let i = map insWord (allCode ss) in
       let t = map spanWord (m .strings) in
-      let a = ap (all (insFits u)) (h .instrs) ∙ all-true (insFits u) i (all-map insWord (λ (x : Instruction). Held u (kinds (x .op)) x) (λ w. insFits u w ≡ true) (ins-fits u c) (allCode ss) (f .instrs)) in
+      let a = ap (allb (insFits u)) (h .instrs) ∙ all-true (insFits u) i (all-map insWord (λ (x : Instruction). Held u (kinds (x .op)) x) (λ w. insFits u w ≡ true) (ins-fits u c) (allCode ss) (f .instrs)) in
       let b = ap (runsFit u 0 0) (h .sections) ∙ runs-fit u c 0 0 ss (f .sects) (omega (arith, code-length ss)) in
-      let d = ap (all (spanFits u)) (h .strings) ∙ all-true (spanFits u) t (all-map spanWord (SpanFit (u .pool)) (λ w. spanFits u w ≡ true) (span-fits u c) (m .strings) (f .spans)) in
-      let e = ap (all (nameFits u)) (h .names) ∙ all-true (nameFits u) (m .names) (f .names) in
+      let d = ap (allb (spanFits u)) (h .strings) ∙ all-true (spanFits u) t (all-map spanWord (SpanFit (u .pool)) (λ w. spanFits u w ≡ true) (span-fits u c) (m .strings) (f .spans)) in
+      let e = ap (allb (nameFits u)) (h .names) ∙ all-true (nameFits u) (m .names) (f .names) in
       and (and (and a b) d) e
 
   -- Such tables keep the rules.

@@ -13,7 +13,7 @@ use Rattle.rules.specs.Constants.{mostLines, mostCount}
 use Rattle.rules.specs.Refusal as Refusal
 use Rattle.rules.specs.Word.{Run, wordRun, runSpare}
 use Rattle.rules.specs.Machine.{SectionCode, absent, Machine}
-use Rattle.rules.specs.Tables.{Tables, Counts, all, fits, countFits, countsFit, wordsFit, insFits, spanFits, nameFits, startFits, runsFit, successFits, successOf, readSections, decode, countsOf}
+use Rattle.rules.specs.Tables.{Tables, Counts, allb, fits, countFits, countsFit, wordsFit, insFits, spanFits, nameFits, startFits, runsFit, successFits, successOf, readSections, decode, countsOf}
 use Rattle.rules.specs.Combine.{pair, combineSections, combined}
 use Rattle.rules.specs.Operations.{write, change, fixedHere, allAhead, combineIn, combine}
 use Rattle.rules.specs.Walk.{walk, walkSections}
@@ -69,12 +69,12 @@ some-line t u e = ltb-true 0 (u .lines) (go (ltb 0 (u .lines)) e)
     go true q = refl
     go false q = absurd (true≢false false q refl)
 
-fixed : (m : List SectionCode) → all fixedHere m ≡ true → Fixed m
-unfolding all fixedHere
+fixed : (m : List SectionCode) → allb fixedHere m ≡ true → Fixed m
+unfolding allb fixedHere
 fixed [] e = tt
 fixed (s ∷ m) e = go (fixedHere s) refl e (fixed m)
   where
-    go : (b : Bool) → fixedHere s ≡ b → elim b [ false ↦ false | true ↦ all fixedHere m ] ≡ true → (all fixedHere m ≡ true → Fixed m) → Fixed (s ∷ m)
+    go : (b : Bool) → fixedHere s ≡ b → elim b [ false ↦ false | true ↦ allb fixedHere m ] ≡ true → (allb fixedHere m ≡ true → Fixed m) → Fixed (s ∷ m)
     go false p q ih = absurd (true≢false false q refl)
     go true p q ih = (p, ih q)
 
@@ -95,10 +95,10 @@ counts-fit t u e = go (countsFit t u) refl e
 runs-fit : (t : Tables) (u : Counts) → wordsFit t u ≡ true → runsFit u 0 0 (take (u .sections) (t .sections)) ≡ true
 unfolding wordsFit
 runs-fit t u e =
-    let a = all (insFits u) (take (u .instrs) (t .instrs)) in
+    let a = allb (insFits u) (take (u .instrs) (t .instrs)) in
     let b = runsFit u 0 0 (take (u .sections) (t .sections)) in
-    let c = all (spanFits u) (take (u .strings) (t .strings)) in
-    both a b (both (a && b) c (both (a && b && c) (all (nameFits u) (take (u .names) (t .names))) e .0) .0) .1
+    let c = allb (spanFits u) (take (u .strings) (t .strings)) in
+    both a b (both (a && b) c (both (a && b && c) (allb (nameFits u) (take (u .names) (t .names))) e .0) .0) .1
 
 begins : (t : Tables) (u : Counts) → Begins (decode t u)
 unfolding decode
@@ -118,13 +118,13 @@ value a (ok b) = b
 
 combine-fixed : (t : Tables) (m r : Machine) → combineIn t m ≡ ok r → (Fixed (m .sections)) × (combined m ≡ r)
 unfolding combineIn value
-combine-fixed t m r e = first (all fixedHere (m .sections)) refl e
+combine-fixed t m r e = first (allb fixedHere (m .sections)) refl e
   where
     then : (b : Bool) → elim b [ false ↦ refused Refusal.linksBack | true ↦ ok (combined m) ] ≡ ok r → combined m ≡ r
     then false q = absurd (refused≢ok Refusal.linksBack r q)
     then true q = ap (value r) q
 
-    first : (b : Bool) → all fixedHere (m .sections) ≡ b → elim b [ false ↦ refused Refusal.isUnfixed | true ↦ elim (allAhead (m .sections) 0 (m .sections)) [ false ↦ refused Refusal.linksBack | true ↦ ok (combined m) ] ] ≡ ok r → (Fixed (m .sections)) × (combined m ≡ r)
+    first : (b : Bool) → allb fixedHere (m .sections) ≡ b → elim b [ false ↦ refused Refusal.isUnfixed | true ↦ elim (allAhead (m .sections) 0 (m .sections)) [ false ↦ refused Refusal.linksBack | true ↦ ok (combined m) ] ] ≡ ok r → (Fixed (m .sections)) × (combined m ≡ r)
     first false p q = absurd (refused≢ok Refusal.isUnfixed r q)
     first true p q = (fixed (m .sections) p, then (allAhead (m .sections) 0 (m .sections)) q)
 

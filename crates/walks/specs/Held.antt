@@ -10,7 +10,7 @@ use lib.ListN.{length, getD, drop, getElem?}
 use borrow.Author.Tests.{leb-true}
 use Rattle.rules.specs.Instr.{Row, Instruction, isJump, shown, Kind, unused, num, str, val, place, table, kinds}
 use Rattle.rules.specs.Machine.{SectionOrLine, unfixed, section, line, SectionCode, absent, Machine}
-use Rattle.rules.specs.Tables.{Counts, countsOf, all, allCode, nameFits}
+use Rattle.rules.specs.Tables.{Counts, countsOf, allb, allCode, nameFits}
 use Rattle.rules.specs.Demand.{All, FieldBelow, FieldsBelow, RegistersBelow}
 use Rattle.walks.specs.Claim.{CodeGood, NextGood, SectGood}
 use Rattle.walks.specs.Jumps.{aimed-other}
@@ -24,25 +24,25 @@ use Rattle.walks.specs.Shape.{all-at, numbered}
 abbrev noPlace : Kind × Kind × Kind → Bool
 noPlace k = not (isPlace (k .0)) && not (isPlace (k .1)) && not (isPlace (k .2))
 
-all-lookup : {A : Type 0} (p : A → Bool) (l : List A) → all p l ≡ true → (o : ℕ) (k : A) → getElem? l o ≡ some k → p k ≡ true
-unfolding all
+all-lookup : {A : Type 0} (p : A → Bool) (l : List A) → allb p l ≡ true → (o : ℕ) (k : A) → getElem? l o ≡ some k → p k ≡ true
+unfolding allb
 all-lookup p [] h o k e = absurd (let z : _≡_ {A = ℕ} 0 1 = cc in omega arith)
 all-lookup {A} p (x ∷ l) h zero k e = let q : x ≡ k = cc in subst (λ (y : A). p y ≡ true) q (go (p x) refl h)
   where
-    go : (b : Bool) → p x ≡ b → elim b as (λ z. Bool) [ false ↦ false | true ↦ all p l ] ≡ true → p x ≡ true
+    go : (b : Bool) → p x ≡ b → elim b as (λ z. Bool) [ false ↦ false | true ↦ allb p l ] ≡ true → p x ≡ true
     go true q r = q
     go false q r = absurd (true≢false false r refl)
 all-lookup p (x ∷ l) h (suc o) k e = all-lookup p l (go (p x) h) o k e
   where
-    go : (b : Bool) → elim b as (λ z. Bool) [ false ↦ false | true ↦ all p l ] ≡ true → all p l ≡ true
+    go : (b : Bool) → elim b as (λ z. Bool) [ false ↦ false | true ↦ allb p l ] ≡ true → allb p l ≡ true
     go true r = r
     go false r = absurd (true≢false false r refl)
 
 rowPlain : Row → Bool
 rowPlain r = noPlace (r .kinds)
 
-rest-plain : all rowPlain (drop 2 table) ≡ true
-unfolding all table rowPlain
+rest-plain : allb rowPlain (drop 2 table) ≡ true
+unfolding allb table rowPlain
 rest-plain = refl
 
 no-place : (o : ℕ) → leb o 1 ≡ false → (k : Kind × Kind × Kind) → kinds o ≡ some k → noPlace k ≡ true

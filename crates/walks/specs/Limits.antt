@@ -13,7 +13,7 @@ use Rattle.rules.specs.Bits.{Res, refused, ok, bit, spelled, field, isOne}
 use Rattle.rules.specs.Tree.{Name, Tree, Expr, Block, Tally, both, node, statement, ofExpr, ofBlock, ofLines, binop, unop, ident, number, string, goto, ite, assign, end}
 use Rattle.rules.specs.Tree as Tree
 use Rattle.rules.specs.Constants.{mostDepth, mostNodes}
-use Rattle.rules.specs.Parse.{Reader, At, pure, refuse, _>>=_, demand, bits, begin, many, block, operator, binops, unops, assignops, nameOf, signed}
+use Rattle.rules.specs.Parse.{Reader, At, succeed, refuse, _>>=_, demand, bits, begin, many, block, operator, binops, unops, assignops, nameOf, signed}
 use Rattle.rules.specs.Parse.{binopOf, unopOf, incdecOf, identOf, numberOf, stringOf, exprKinds, gotoOf, iteOf, stepOf, assignOf, stmtKinds, expr, stmt, known, name, names, fill, lineBlock, body, file, parse}
 use Rattle.walks.specs.Parsed.{refused≢ok, Passed, passed, demanded, many-length, parsed}
 
@@ -45,8 +45,8 @@ reads-seq s j k a b c p q =
 pub reads-as : (s : List ℕ) (j k : Tally) (a b : At) → j .nodes ≡ k .nodes → j .characters ≡ k .characters → Reads s j a b → Reads s k a b
 reads-as s j k a b p q r = record { nodes = omega arith; most = r .most; chars = omega arith; inside = r .inside }
 
-pub reads-here : (s : List ℕ) (a : At) → Reads s Tree.none a a
-unfolding Tree.none
+pub reads-here : (s : List ℕ) (a : At) → Reads s Tree.emptyTally a a
+unfolding Tree.emptyTally
 reads-here s a = record { nodes = omega arith; most = λ h. h; chars = omega arith; inside = λ h. h }
 
 -- ---- single steps
@@ -55,8 +55,8 @@ abbrev unOk : {A : Type 0} → A → Res A → A
 unOk a (refused n) = a
 unOk a (ok b) = b
 
-pub pure-is : {A : Type 0} (v : A) (s : List ℕ) (c : At) (x : A × At) → pure v s c ≡ ok x → _≡_ {A = A × At} (v, c) x
-unfolding pure
+pub pure-is : {A : Type 0} (v : A) (s : List ℕ) (c : At) (x : A × At) → succeed v s c ≡ ok x → _≡_ {A = A × At} (v, c) x
+unfolding succeed
 pure-is v s c x e = ap (unOk x) e
 
 pub record BitsRead (w : ℕ) (s : List ℕ) (a : At) (x : ℕ × At) : Type 0 where
@@ -85,15 +85,15 @@ bits-read w s a x e = go (leb (a .pos + w) (8 * length s)) refl e
         z
         (record { small = spelled-lt s w (a .pos); fits = leb-true (a .pos + w) (8 * length s) p; pos = refl; nodes = refl })
 
-pub bits-reads : (w : ℕ) (s : List ℕ) (a : At) (x : ℕ × At) → bits w s a ≡ ok x → Reads s Tree.none a (x .1)
-unfolding Tree.none
+pub bits-reads : (w : ℕ) (s : List ℕ) (a : At) (x : ℕ × At) → bits w s a ≡ ok x → Reads s Tree.emptyTally a (x .1)
+unfolding Tree.emptyTally
 bits-reads w s a x e =
     let b = bits-read w s a x e in
     record { nodes = omega (arith, b .nodes); most = λ h. omega (arith, b .nodes); chars = omega (arith, b .pos); inside = λ h. omega (arith, b .pos, b .fits) }
 
-pub demand-reads : (b : Bool) (n : ℕ) (s : List ℕ) (a : At) (x : Unit {0} × At) → demand b n s a ≡ ok x → Reads s Tree.none a (x .1)
-unfolding demand pure
-demand-reads true n s a x e = subst (λ (z : Unit {0} × At). Reads s Tree.none a (z .1)) (pure-is tt s a x e) (reads-here s a)
+pub demand-reads : (b : Bool) (n : ℕ) (s : List ℕ) (a : At) (x : Unit {0} × At) → demand b n s a ≡ ok x → Reads s Tree.emptyTally a (x .1)
+unfolding demand succeed
+demand-reads true n s a x e = subst (λ (z : Unit {0} × At). Reads s Tree.emptyTally a (z .1)) (pure-is tt s a x e) (reads-here s a)
 demand-reads false n s a x e = absurd (refused≢ok n x e)
 
 -- One node more.
@@ -121,31 +121,31 @@ seq-reads : {A B : Type 0} (m : Reader A) (f : A → Reader B) (s : List ℕ) (a
     → (m >>= f) s a ≡ ok x → Reads s (both j k) a (x .1)
 seq-reads m f s a x j k hm hf e =
     let p = passed m f s a x e in
-    reads-seq s j k a (p .at) (x .1) (hm (p .val, p .at) (p .here)) (hf (p .val) (p .at) (p .here) (p .success))
+    reads-seq s j k a (p .at) (x .1) (hm (p .val, p .at) (p .here)) (hf (p .val) (p .at) (p .here) (p .follows))
 
-pub operator-reads : {A : Type 0} (w : ℕ) (ops : List A) (s : List ℕ) (a : At) (x : A × At) → operator w ops s a ≡ ok x → Reads s Tree.none a (x .1)
+pub operator-reads : {A : Type 0} (w : ℕ) (ops : List A) (s : List ℕ) (a : At) (x : A × At) → operator w ops s a ≡ ok x → Reads s Tree.emptyTally a (x .1)
 unfolding operator refuse
 operator-reads {A} w ops s a x e =
-    let f : ℕ → Reader A = λ k. elim (getElem? ops k) [ none ↦ refuse 4 | some o ↦ pure o ] in
+    let f : ℕ → Reader A = λ k. elim (getElem? ops k) [ none ↦ refuse 4 | some o ↦ succeed o ] in
     let p = passed (bits w) f s a x e in
-    after (getElem? ops (p .val)) (p .at) (bits-reads w s a (p .val, p .at) (p .here)) (p .success)
+    after (getElem? ops (p .val)) (p .at) (bits-reads w s a (p .val, p .at) (p .here)) (p .follows)
   where
-    after : (o : Option A) (b : At) → Reads s Tree.none a b → (let m : Reader A = elim o [ none ↦ refuse 4 | some v ↦ pure v ] in m s b ≡ ok x) → Reads s Tree.none a (x .1)
+    after : (o : Option A) (b : At) → Reads s Tree.emptyTally a b → (let m : Reader A = elim o [ none ↦ refuse 4 | some v ↦ succeed v ] in m s b ≡ ok x) → Reads s Tree.emptyTally a (x .1)
     after none b r q = absurd (refused≢ok 4 x q)
-    after (some v) b r q = subst (λ (z : A × At). Reads s Tree.none a (z .1)) (pure-is v s b x q) r
+    after (some v) b r q = subst (λ (z : A × At). Reads s Tree.emptyTally a (z .1)) (pure-is v s b x q) r
 
-pub name-reads : (n : ℕ) (s : List ℕ) (a : At) (x : ℕ × At) → nameOf n s a ≡ ok x → Reads s Tree.none a (x .1)
-unfolding nameOf Tree.none both
+pub name-reads : (n : ℕ) (s : List ℕ) (a : At) (x : ℕ × At) → nameOf n s a ≡ ok x → Reads s Tree.emptyTally a (x .1)
+unfolding nameOf Tree.emptyTally both
 name-reads n s a x e =
-    let p = passed (bits 8) (λ y. demand (ltb y n) 5 >>= λ z. pure y) s a x e in
-    let q = passed (demand (ltb (p .val) n) 5) (λ z. pure (p .val)) s (p .at) x (p .success) in
-    let r = reads-seq s Tree.none Tree.none a (p .at) (q .at) (bits-reads 8 s a (p .val, p .at) (p .here)) (demand-reads (ltb (p .val) n) 5 s (p .at) (q .val, q .at) (q .here)) in
-    subst (λ (z : ℕ × At). Reads s Tree.none a (z .1)) (pure-is (p .val) s (q .at) x (q .success)) (reads-as s (both Tree.none Tree.none) Tree.none a (q .at) refl refl r)
+    let p = passed (bits 8) (λ y. demand (ltb y n) 5 >>= λ z. succeed y) s a x e in
+    let q = passed (demand (ltb (p .val) n) 5) (λ z. succeed (p .val)) s (p .at) x (p .follows) in
+    let r = reads-seq s Tree.emptyTally Tree.emptyTally a (p .at) (q .at) (bits-reads 8 s a (p .val, p .at) (p .here)) (demand-reads (ltb (p .val) n) 5 s (p .at) (q .val, q .at) (q .here)) in
+    subst (λ (z : ℕ × At). Reads s Tree.emptyTally a (z .1)) (pure-is (p .val) s (q .at) x (q .follows)) (reads-as s (both Tree.emptyTally Tree.emptyTally) Tree.emptyTally a (q .at) refl refl r)
 
 -- ---- many
 
 unfoldable pub sum : {A : Type 0} → (A → Tally) → List A → Tally
-sum k [] = Tree.none
+sum k [] = Tree.emptyTally
 sum k (x ∷ l) = both (k x) (sum k l)
 
 pub many-reads : {A : Type 0} (k : A → Tally) (n : ℕ) (m : Reader A) (s : List ℕ)
@@ -154,12 +154,12 @@ pub many-reads : {A : Type 0} (k : A → Tally) (n : ℕ) (m : Reader A) (s : Li
 unfolding many sum
 many-reads {A} k zero m s h a x e = subst (λ (z : List A × At). Reads s (sum k (z .0)) a (z .1)) (pure-is [] s a x e) (reads-here s a)
 many-reads {A} k (suc n) m s h a x e =
-    let p = passed m (λ v. many n m >>= λ vs. pure (v ∷ vs)) s a x e in
-    let q = passed (many n m) (λ vs. pure (p .val ∷ vs)) s (p .at) x (p .success) in
+    let p = passed m (λ v. many n m >>= λ vs. succeed (v ∷ vs)) s a x e in
+    let q = passed (many n m) (λ vs. succeed (p .val ∷ vs)) s (p .at) x (p .follows) in
     let r = many-reads k n m s h (p .at) (q .val, q .at) (q .here) in
     subst
     (λ (z : List A × At). Reads s (sum k (z .0)) a (z .1))
-    (pure-is (p .val ∷ q .val) s (q .at) x (q .success))
+    (pure-is (p .val ∷ q .val) s (q .at) x (q .follows))
     (reads-seq s (k (p .val)) (sum k (q .val)) a (p .at) (q .at) (h a (p .val, p .at) (p .here)) r)
 
 -- characters of 7 bits
@@ -173,7 +173,7 @@ char-reads s a x e =
     record { nodes = omega (arith, b .nodes); most = λ h. omega (arith, b .nodes); chars = omega (arith, b .pos); inside = λ h. omega (arith, b .pos, b .fits) }
 
 pub sum-chars : (t : List ℕ) → (sum oneChar t .characters ≡ length t) × (sum oneChar t .nodes ≡ 0)
-unfolding sum oneChar both Tree.none
+unfolding sum oneChar both Tree.emptyTally
 sum-chars [] = (refl, refl)
 sum-chars (c ∷ t) = (omega (arith, sum-chars t .0), omega (arith, sum-chars t .1))
 
@@ -192,13 +192,13 @@ ShortExpr (string t) = length t < 128
 abbrev under : Expr → Tally
 under (binop o l r) = both (ofExpr l) (ofExpr r)
 under (unop o r) = ofExpr r
-under (Expr.incdec b x) = Tree.none
-under (ident x) = Tree.none
-under (number z) = Tree.none
+under (Expr.incdec b x) = Tree.emptyTally
+under (ident x) = Tree.emptyTally
+under (number z) = Tree.emptyTally
 under (string t) = record { statements = 0; nodes = 0; strings = 1; characters = length t }
 
 over-under : (e : Expr) → (ofExpr e .nodes ≡ suc (under e .nodes)) × (ofExpr e .characters ≡ under e .characters)
-unfolding ofExpr node both Tree.none
+unfolding ofExpr node both Tree.emptyTally
 over-under (binop o l r) = (refl, refl)
 over-under (unop o r) = (refl, refl)
 over-under (Expr.incdec b x) = (refl, refl)
@@ -213,22 +213,22 @@ pub record ReadExpr (k : Expr → Tally) (s : List ℕ) (a : At) (x : Expr × At
 abbrev pub Sound : Reader Expr → List ℕ → Type 0
 Sound r s = (a : At) (x : Expr × At) → r s a ≡ ok x → ReadExpr ofExpr s a x
 
-pub none-left : (s : List ℕ) (k : Tally) (a b c : At) → Reads s Tree.none a b → Reads s k b c → Reads s k a c
-unfolding Tree.none
+pub none-left : (s : List ℕ) (k : Tally) (a b c : At) → Reads s Tree.emptyTally a b → Reads s k b c → Reads s k a c
+unfolding Tree.emptyTally
 none-left s k a b c p q = record { nodes = omega arith; most = λ h. q .most (p .most h); chars = omega arith; inside = λ h. q .inside (p .inside h) }
 
 module _ (s : List ℕ) (n : ℕ) (r : Reader Expr) (h : Sound r s) (a : At) (x : Expr × At) where
   binop-read : binopOf r s a ≡ ok x → ReadExpr under s a x
   unfolding binopOf
   binop-read e =
-      let p = passed (operator 4 binops) (λ o. r >>= λ u. r >>= λ v. pure (binop o u v)) s a x e in
-      let q = passed r (λ u. r >>= λ v. pure (binop (p .val) u v)) s (p .at) x (p .success) in
-      let w = passed r (λ v. pure (binop (p .val) (q .val) v)) s (q .at) x (q .success) in
+      let p = passed (operator 4 binops) (λ o. r >>= λ u. r >>= λ v. succeed (binop o u v)) s a x e in
+      let q = passed r (λ u. r >>= λ v. succeed (binop (p .val) u v)) s (p .at) x (p .follows) in
+      let w = passed r (λ v. succeed (binop (p .val) (q .val) v)) s (q .at) x (q .follows) in
       let i = h (p .at) (q .val, q .at) (q .here) in
       let j = h (q .at) (w .val, w .at) (w .here) in
       subst
       (ReadExpr under s a)
-      (pure-is (binop (p .val) (q .val) (w .val)) s (w .at) x (w .success))
+      (pure-is (binop (p .val) (q .val) (w .val)) s (w .at) x (w .follows))
       (
       record {
         reads = none-left s (both (ofExpr (q .val)) (ofExpr (w .val))) a (p .at) (w .at) (operator-reads 4 binops s a (p .val, p .at) (p .here)) (reads-seq s (ofExpr (q .val)) (ofExpr (w .val)) (p .at) (q .at) (w .at) (i .reads) (j .reads));
@@ -239,48 +239,48 @@ module _ (s : List ℕ) (n : ℕ) (r : Reader Expr) (h : Sound r s) (a : At) (x 
   unop-read : unopOf r s a ≡ ok x → ReadExpr under s a x
   unfolding unopOf
   unop-read e =
-      let p = passed (operator 4 unops) (λ o. r >>= λ u. pure (unop o u)) s a x e in
-      let q = passed r (λ u. pure (unop (p .val) u)) s (p .at) x (p .success) in
+      let p = passed (operator 4 unops) (λ o. r >>= λ u. succeed (unop o u)) s a x e in
+      let q = passed r (λ u. succeed (unop (p .val) u)) s (p .at) x (p .follows) in
       let i = h (p .at) (q .val, q .at) (q .here) in
       subst
       (ReadExpr under s a)
-      (pure-is (unop (p .val) (q .val)) s (q .at) x (q .success))
+      (pure-is (unop (p .val) (q .val)) s (q .at) x (q .follows))
       (record { reads = none-left s (ofExpr (q .val)) a (p .at) (q .at) (operator-reads 4 unops s a (p .val, p .at) (p .here)) (i .reads); short = i .short })
 
   incdec-read : incdecOf n s a ≡ ok x → ReadExpr under s a x
   unfolding incdecOf
   incdec-read e =
-      let p = passed (bits 1) (λ i. nameOf n >>= λ y. pure (Expr.incdec (isOne i) y)) s a x e in
-      let q = passed (nameOf n) (λ y. pure (Expr.incdec (isOne (p .val)) y)) s (p .at) x (p .success) in
+      let p = passed (bits 1) (λ i. nameOf n >>= λ y. succeed (Expr.incdec (isOne i) y)) s a x e in
+      let q = passed (nameOf n) (λ y. succeed (Expr.incdec (isOne (p .val)) y)) s (p .at) x (p .follows) in
       subst
       (ReadExpr under s a)
-      (pure-is (Expr.incdec (isOne (p .val)) (q .val)) s (q .at) x (q .success))
-      (record { reads = none-left s Tree.none a (p .at) (q .at) (bits-reads 1 s a (p .val, p .at) (p .here)) (name-reads n s (p .at) (q .val, q .at) (q .here)); short = tt })
+      (pure-is (Expr.incdec (isOne (p .val)) (q .val)) s (q .at) x (q .follows))
+      (record { reads = none-left s Tree.emptyTally a (p .at) (q .at) (bits-reads 1 s a (p .val, p .at) (p .here)) (name-reads n s (p .at) (q .val, q .at) (q .here)); short = tt })
 
   ident-read : identOf n s a ≡ ok x → ReadExpr under s a x
   unfolding identOf
   ident-read e =
-      let q = passed (nameOf n) (λ y. pure (ident y)) s a x e in
-      subst (ReadExpr under s a) (pure-is (ident (q .val)) s (q .at) x (q .success)) (record { reads = name-reads n s a (q .val, q .at) (q .here); short = tt })
+      let q = passed (nameOf n) (λ y. succeed (ident y)) s a x e in
+      subst (ReadExpr under s a) (pure-is (ident (q .val)) s (q .at) x (q .follows)) (record { reads = name-reads n s a (q .val, q .at) (q .here); short = tt })
 
   number-read : numberOf s a ≡ ok x → ReadExpr under s a x
   unfolding numberOf
   number-read e =
-      let q = passed (bits 64) (λ v. pure (number (signed v))) s a x e in
-      subst (ReadExpr under s a) (pure-is (number (signed (q .val))) s (q .at) x (q .success)) (record { reads = bits-reads 64 s a (q .val, q .at) (q .here); short = tt })
+      let q = passed (bits 64) (λ v. succeed (number (signed v))) s a x e in
+      subst (ReadExpr under s a) (pure-is (number (signed (q .val))) s (q .at) x (q .follows)) (record { reads = bits-reads 64 s a (q .val, q .at) (q .here); short = tt })
 
   string-read : stringOf s a ≡ ok x → ReadExpr under s a x
   unfolding stringOf
   string-read e =
-      let p = passed (bits 7) (λ l. many l (bits 7) >>= λ t. pure (string t)) s a x e in
-      let q = passed (many (p .val) (bits 7)) (λ t. pure (string t)) s (p .at) x (p .success) in
+      let p = passed (bits 7) (λ l. many l (bits 7) >>= λ t. succeed (string t)) s a x e in
+      let q = passed (many (p .val) (bits 7)) (λ t. succeed (string t)) s (p .at) x (p .follows) in
       let b = bits-read 7 s a (p .val, p .at) (p .here) in
       let m = many-reads oneChar (p .val) (bits 7) s (char-reads s) (p .at) (q .val, q .at) (q .here) in
       let l : length (q .val) ≡ p .val = many-length (p .val) (bits 7) s (p .at) (q .val, q .at) (q .here) in
       let c = sum-chars (q .val) in
       subst
       (ReadExpr under s a)
-      (pure-is (string (q .val)) s (q .at) x (q .success))
+      (pure-is (string (q .val)) s (q .at) x (q .follows))
       (
       record {
         reads = none-left s (under (string (q .val))) a (p .at) (q .at) (bits-reads 7 s a (p .val, p .at) (p .here)) (reads-as s (sum oneChar (q .val)) (under (string (q .val))) (p .at) (q .at) (c .1) (c .0) m);
@@ -303,8 +303,8 @@ unfolding expr refuse one both
 expr-read s n zero a x e = absurd (refused≢ok 7 x e)
 expr-read s n (suc d) a x e =
     let p = passed begin (λ z. bits 3 >>= λ k. getD (exprKinds n (expr n d)) k (refuse 4)) s a x e in
-    let q = passed (bits 3) (λ k. getD (exprKinds n (expr n d)) k (refuse 4)) s (p .at) x (p .success) in
-    let i = kind-read s n (expr n d) (expr-read s n d) (q .at) x (q .val) (q .success) in
+    let q = passed (bits 3) (λ k. getD (exprKinds n (expr n d)) k (refuse 4)) s (p .at) x (p .follows) in
+    let i = kind-read s n (expr n d) (expr-read s n d) (q .at) x (q .val) (q .follows) in
     let o = over-under (x .0) in
     let j = reads-seq s one (under (x .0)) a (p .at) (x .1) (begin-reads s a (p .val, p .at) (p .here)) (none-left s (under (x .0)) (p .at) (q .at) (x .1) (bits-reads 3 s (p .at) (q .val, q .at) (q .here)) (i .reads)) in
     record { reads = reads-as s (both one (under (x .0))) (ofExpr (x .0)) a (x .1) (omega (arith, o .0)) (omega (arith, o .1)) j; short = i .short }

@@ -10,7 +10,7 @@ use Rattle.rules.specs.Bits.{Res, refused, ok}
 use Rattle.rules.specs.Tree.{Tree}
 use Rattle.rules.specs.Parse.{parse}
 use Rattle.rules.specs.Machine.{SectionCode, Machine}
-use Rattle.rules.specs.Tables.{Tables, Counts, countsOf, all}
+use Rattle.rules.specs.Tables.{Tables, Counts, countsOf, allb}
 use Rattle.rules.specs.Script.{Script}
 use Rattle.rules.specs.Assemble.{sectionsOf}
 use Rattle.rules.specs.Reading.{script}
@@ -38,8 +38,8 @@ unfolding cleanIn
 clean-accepts o s t e l =
     let lim = limits s t e in
     let m = lowered o t in
-    let test : (all fixedHere (take (m .lines) (m .sections)) && all (jumpsFixed (m .sections)) (m .sections)) ≡ true =
-    ap₂ (λ (n : ℕ) (z : List SectionCode). all fixedHere (take n z) && all (jumpsFixed z) z) (lines-are o t lim) (lowered-sections o t) ∙ clean-test (script t) (pos o t lim)
+    let test : (allb fixedHere (take (m .lines) (m .sections)) && allb (jumpsFixed (m .sections)) (m .sections)) ≡ true =
+    ap₂ (λ (n : ℕ) (z : List SectionCode). allb fixedHere (take n z) && allb (jumpsFixed z) z) (lines-are o t lim) (lowered-sections o t) ∙ clean-test (script t) (pos o t lim)
     in
     ap (λ (b : Bool). elim b as (λ z. Res Machine) [ true ↦ ok (cleaned m) | false ↦ refused Refusal.needsUnfixed ]) test
 
@@ -52,7 +52,7 @@ combine-accepts o s t e l =
     let r = ready o t lim in
     let m = cleaned (lowered o t) in
     let c : cleanSections (lowered o t .sections) ≡ cleanSections (sectionsOf k) = ap cleanSections (lowered-sections o t) in
-    let fixed : all fixedHere (m .sections) ≡ true = ap (all fixedHere) c ∙ all-fixed (cleanSections (sectionsOf k)) (r .fixed) in
+    let fixed : allb fixedHere (m .sections) ≡ true = ap (allb fixedHere) c ∙ all-fixed (cleanSections (sectionsOf k)) (r .fixed) in
     let ahead : allAhead (m .sections) 0 (m .sections) ≡ true = ap (λ (z : List SectionCode). allAhead z 0 z) c ∙ all-test (cleanSections (sectionsOf k)) 0 (cleanSections (sectionsOf k)) (clean-ahead k (rank-low (length k) (pos o t lim) (sectionsOf k) (lower-fixed k (pos o t lim))) (r .starts)) in
     ap₂
     (λ (a b : Bool). let y : Res Machine = elim b [ false ↦ refused Refusal.linksBack | true ↦ ok (combined m) ] in elim a as (λ z. Res Machine) [ false ↦ refused Refusal.isUnfixed | true ↦ y ])

@@ -2,7 +2,7 @@
 use native.Mathlib.Omega.{arith}
 use borrow.Author.Needs.{needs}
 use Rattle.nodes.specs.Builds.{flagR}
-use Rattle.rules.specs.Tree.{node, none}
+use Rattle.rules.specs.Tree.{node, emptyTally}
 use Rattle.nodes.proofs.Table.{agree-refl}
 use Rattle.nodes.proofs.Built.{sealed, refuses}
 use Rattle.bits.proofs.Gives.{then, stop, done, took, failed, named}
@@ -53,7 +53,7 @@ same-length : tie.Need-same-length
 same-length c = search needs
 
 returns-3 : tie.Need-returns-3
-unfolding flagR node none
+unfolding flagR node emptyTally
 returns-3 c =
     let p = c .before .before .before .before .before .before .before .before .before .before .before .before .before .before .pre in
     let b = took (c .before .before .before .before .before .before .before .before .before .before .before .take .ensures) (c .before .before .before .before .before .before .before .before .before .r .given .1) in

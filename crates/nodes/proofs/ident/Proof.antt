@@ -4,7 +4,7 @@ use borrow.Author.Needs.{needs}
 use Rattle.rules.specs.Parse.{identOf}
 use Rattle.nodes.specs.Holds.{at-ident}
 use Rattle.nodes.specs.Builds.{before}
-use Rattle.rules.specs.Tree.{node, none, ofExpr}
+use Rattle.rules.specs.Tree.{node, emptyTally, ofExpr}
 use Rattle.nodes.proofs.Table.{agree-refl}
 use Rattle.nodes.proofs.Built.{sealed, refuses}
 use Rattle.bits.proofs.Gives.{then, stop, done, took, failed, named}
@@ -36,7 +36,7 @@ same-length : tie.Need-same-length
 same-length c = search needs
 
 returns-2 : tie.Need-returns-2
-unfolding identOf ofExpr node none
+unfolding identOf ofExpr node emptyTally
 returns-2 c =
     let p = c .before .before .before .before .before .before .before .before .before .before .pre in
     let x = took (c .before .before .before .before .before .before .before .below .ensures) (c .before .before .before .before .before .r .given .1) in

@@ -4,7 +4,7 @@ use native.Mathlib.Omega.{arith}
 use borrow.Author.Needs.{needs}
 use Rattle.nodes.specs.Holds.{at-number}
 use Rattle.nodes.specs.Builds.{before}
-use Rattle.rules.specs.Tree.{node, none, ofExpr}
+use Rattle.rules.specs.Tree.{node, emptyTally, ofExpr}
 use Rattle.nodes.proofs.Table.{agree-refl}
 use Rattle.nodes.proofs.Built.{number-from, sealed, refuses}
 use Rattle.bits.proofs.Gives.{then, stop, done, passed, not-passed, pass-bits, ends-bits}
@@ -35,7 +35,7 @@ same-length : tie.Need-same-length
 same-length c = search needs
 
 returns-2 : tie.Need-returns-2
-unfolding ofExpr node none
+unfolding ofExpr node emptyTally
 returns-2 c =
     let p = c .before .before .before .before .before .before .before .before .before .before .pre in
     let x = passed (c .before .before .before .before .before .before .before .pass .ensures) (c .before .before .before .before .before .r .given .1) in

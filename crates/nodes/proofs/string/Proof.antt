@@ -5,7 +5,7 @@ use borrow.Author.Needs.{needs}
 use Rattle.rules.specs.Parse.{stringOf}
 use Rattle.nodes.specs.Holds.{at-string}
 use Rattle.nodes.specs.Builds.{before}
-use Rattle.rules.specs.Tree.{node, none, ofExpr}
+use Rattle.rules.specs.Tree.{node, emptyTally, ofExpr}
 use Rattle.nodes.proofs.Built.{chars-length, sealed, refuses}
 use Rattle.nodes.proofs.Table.{agree-refl}
 use Rattle.bits.proofs.Gives.{then, stop, done, took, failed, skipped, not-skipped}
@@ -67,7 +67,7 @@ same-length : tie.Need-same-length
 same-length c = search needs
 
 returns-3 : tie.Need-returns-3
-unfolding stringOf ofExpr node none
+unfolding stringOf ofExpr node emptyTally
 returns-3 c =
     let p = c .before .before .before .before .before .before .before .before .before .before .before .before .before .before .before .before .pre in
     let b = took (c .before .before .before .before .before .before .before .before .before .before .before .before .before .take .ensures) (c .before .before .before .before .before .before .before .before .before .before .before .r .given .1) in

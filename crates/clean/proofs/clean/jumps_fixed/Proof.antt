@@ -7,12 +7,12 @@ use Prim.Native.Nat.{_≤_, _-_}
 use borrow.Author.Needs.{needs}
 use Rattle.clean.specs.Pass.{jumpIn}
 use Rattle.tables.proofs.Walks.{all-done, all-stop, all-more}
-use Rattle.rules.specs.Tables.{all}
+use Rattle.rules.specs.Tables.{allb}
 use Rattle.clean.proofs.clean.jumps_fixed.Statement.{statement}
 use Rattle.clean.proofs.clean.jumps_fixed.Tie as tie
 
 abbrev Inv-loop : tie.InvT-loop
-Inv-loop sections n t e i₀ i = (i ≤ e) × (all (jumpIn sections n) (slice i e t) ≡ all (jumpIn sections n) (take e t))
+Inv-loop sections n t e i₀ i = (i ≤ e) × (allb (jumpIn sections n) (slice i e t) ≡ allb (jumpIn sections n) (take e t))
 
 abbrev μ-loop : tie.MeasureT-loop
 μ-loop sections n t e i₀ i = e - i

@@ -5,7 +5,7 @@ use Rattle.exprs.proofs.Forms.{as-number, as-string}
 use Rattle.exprs.specs.Exprs.{exprCost}
 use Rattle.codegen.proofs.Laws.{same}
 use Rattle.rules.specs.Annotate.{codegenFromExpr}
-use Rattle.rules.specs.Tree.{ofExpr, node, none}
+use Rattle.rules.specs.Tree.{ofExpr, node, emptyTally}
 use Rattle.rules.specs.Bits.{isOne}
 use lib.ListN.{length}
 use mathlib.Core.Path.{_≡_, refl, sym, _∙_}
@@ -39,7 +39,7 @@ same-length-2 c = search needs
 
 -- src/leaves.rt:130:9
 returns : tie.Need-returns
-unfolding codegenFromExpr exprCost ofExpr node none isOne
+unfolding codegenFromExpr exprCost ofExpr node emptyTally isOne
 returns c =
     λ u i m e j h q x.
     let b = incdec-at h x q (c .before .before .before .before .before .before .before .if1 .taken) in
@@ -61,7 +61,7 @@ same-length-3 c = search needs
 
 -- src/leaves.rt:133:9
 returns-2 : tie.Need-returns-2
-unfolding codegenFromExpr exprCost ofExpr node none
+unfolding codegenFromExpr exprCost ofExpr node emptyTally
 returns-2 c =
     λ u i m e j h q x.
     let b = ident-at h x q (c .before .before .before .before .if2 .taken) in
@@ -87,7 +87,7 @@ same-length-5 c = search needs
 
 -- src/leaves.rt:137:9
 returns-3 : tie.Need-returns-3
-unfolding exprCost ofExpr node none
+unfolding exprCost ofExpr node emptyTally
 returns-3 c =
     λ u i m e j h q x.
     let b = num-at (c .before .before .before .before .before .before .before .before .before .before .before .before .before .before .pre .short) x q (c .before .before .before .before .before .before .if3 .taken) in

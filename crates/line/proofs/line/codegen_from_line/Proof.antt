@@ -11,7 +11,7 @@ use Rattle.stmts.proofs.Splits.{split, parts}
 use Rattle.stmts.specs.Lists.{only, rest, isEnd}
 use Rattle.nodes.proofs.Blocks.{is-end}
 use Rattle.nodes.specs.Width.{width}
-use Rattle.rules.specs.Tree.{ofBlock, none}
+use Rattle.rules.specs.Tree.{ofBlock, emptyTally}
 use native.Mathlib.Omega.{arith}
 use Prim.Native.Nat.{ℕ, _+_}
 use mathlib.Core.Bool.{cond, true}
@@ -31,7 +31,7 @@ same-length : tie.Need-same-length
 same-length c = search needs
 
 returns : tie.Need-returns
-unfolding ownCost innerNodes insideTally rest ofBlock none width
+unfolding ownCost innerNodes insideTally rest ofBlock emptyTally width
 returns c =
     λ m x z h q.
     let e = is-end q (c .before .before .before .before .if1 .taken) in

@@ -3,7 +3,7 @@ use Rattle.stmts.proofs.Parts.{owns-goto, owns-step, owns-assign, owns-
 use Rattle.stmts.proofs.Places.{goto-at, step-at, assign-at, ite-at, else-ite, ite-sum, goto-sum, assign-sum, step-sum, empty-same}
 use Rattle.stmts.proofs.Splits.{split}
 use Rattle.rules.specs.Bits.{isOne}
-use Rattle.rules.specs.Tree.{PowTo, ofBlock, statement as statementS, node, both, none}
+use Rattle.rules.specs.Tree.{PowTo, ofBlock, statement as statementS, node, both, emptyTally}
 use Rattle.exprs.proofs.Trees.{expr-most}
 use Rattle.stmts.specs.Makes.{jumpCost}
 use Rattle.stmts.specs.Lists.{isEnd}
@@ -83,7 +83,7 @@ same-length-6 : tie.Need-same-length-6
 same-length-6 c = search needs
 
 returns : tie.Need-returns
-unfolding ownCost bare ofBlock statementS node both none
+unfolding ownCost bare ofBlock statementS node both emptyTally
 returns c =
     λ m x z h q.
     let b = goto-at q (c .before .before .before .before .before .before .before .before .before .before .before .before .before .before .before .before .before .before .if1 .taken) in
@@ -113,7 +113,7 @@ same-length-9 : tie.Need-same-length-9
 same-length-9 c = search needs
 
 returns-2 : tie.Need-returns-2
-unfolding isOne ownCost bare ofBlock statementS node both none
+unfolding isOne ownCost bare ofBlock statementS node both emptyTally
 returns-2 c =
     λ m x z h q.
     let b = step-at h q (c .before .before .before .before .before .before .before .before .before .before .if2 .taken) in
@@ -150,7 +150,7 @@ same-length-15 : tie.Need-same-length-15
 same-length-15 c = search needs
 
 returns-3 : tie.Need-returns-3
-unfolding ownCost bare ofBlock statementS node both none
+unfolding ownCost bare ofBlock statementS node both emptyTally
 returns-3 c =
     λ m x z h q.
     let b = assign-at h q (c .before .before .before .before .before .before .before .before .before .before .before .before .before .before .before .before .before .before .if3 .taken) in
@@ -227,7 +227,7 @@ same-length-21 : tie.Need-same-length-21
 same-length-21 c = search needs
 
 returns-4 : tie.Need-returns-4
-unfolding ownCost bare ofBlock statementS node both none
+unfolding ownCost bare ofBlock statementS node both emptyTally
 returns-4 c =
     λ m x z h q.
     let p = c .before .before .before .before .before .before .before .before .before .before .before .before .before .before .before .before .before .before .before .before .before .before .before .before .before .before .before .before .before .before .before .before .pre .list in

@@ -12,7 +12,7 @@ use Rattle.nodes.proofs.Table.{grows-b}
 use Rattle.nodes.proofs.Width.{or-one}
 use Rattle.nodes.specs.Width.{width}
 use Rattle.nodes.specs.Words.{iteKind}
-use Rattle.rules.specs.Tree.{ofBlock, both, none}
+use Rattle.rules.specs.Tree.{ofBlock, both, emptyTally}
 use lib.ListN.{getD}
 use native.Mathlib.Omega.{arith}
 use native.Mathlib.Numerals.{add-one}
@@ -263,7 +263,7 @@ codegen-from-branch-same-length t c =
     c .before .before .before .put-section .kept .0
 
 codegen-from-branch-returns : (t : ℕ) → codegen-from-branch-lts.Need-returns (claims-codegen-from-branch t) (codegen-from-branch-at t) codegen-from-branch.Post
-unfolding ofBlock none
+unfolding ofBlock emptyTally
 codegen-from-branch-returns t c =
     λ m x z h q.
     let e = is-end q (c .before .before .before .before .before .if1 .taken) in

@@ -5,14 +5,14 @@ use borrow.Author.Tests.{not-true, not-false}
 use mathlib.Core.Path.{_≡_, refl, _∙_}
 use Prim.Native.Nat.{_≤_, _-_}
 use borrow.Author.Needs.{needs}
-use Rattle.rules.specs.Tables.{all, insFits}
+use Rattle.rules.specs.Tables.{allb, insFits}
 use Rattle.tables.specs.Lent.{countsTold}
 use Rattle.tables.proofs.Walks.{all-done, all-stop, all-more}
 use Rattle.tables.proofs.check.instructions_fit.Statement.{statement}
 use Rattle.tables.proofs.check.instructions_fit.Tie as tie
 
 abbrev Inv-loop : tie.InvT-loop
-Inv-loop c t i₀ i = (i ≤ c .instructions) × (all (insFits (countsTold c)) (slice i (c .instructions) t) ≡ all (insFits (countsTold c)) (take (c .instructions) t))
+Inv-loop c t i₀ i = (i ≤ c .instructions) × (allb (insFits (countsTold c)) (slice i (c .instructions) t) ≡ allb (insFits (countsTold c)) (take (c .instructions) t))
 
 abbrev μ-loop : tie.MeasureT-loop
 μ-loop c t i₀ i = c .instructions - i

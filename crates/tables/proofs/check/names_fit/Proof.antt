@@ -5,14 +5,14 @@ use borrow.Author.Tests.{not-true, not-false}
 use mathlib.Core.Path.{_≡_, refl, _∙_}
 use Prim.Native.Nat.{_≤_, _-_}
 use borrow.Author.Needs.{needs}
-use Rattle.rules.specs.Tables.{all, nameFits}
+use Rattle.rules.specs.Tables.{allb, nameFits}
 use Rattle.tables.specs.Lent.{countsTold}
 use Rattle.tables.proofs.Walks.{all-done, all-stop, all-more}
 use Rattle.tables.proofs.check.names_fit.Statement.{statement}
 use Rattle.tables.proofs.check.names_fit.Tie as tie
 
 abbrev Inv-loop : tie.InvT-loop
-Inv-loop c t i₀ i = (i ≤ c .names) × (all (nameFits (countsTold c)) (slice i (c .names) t) ≡ all (nameFits (countsTold c)) (take (c .names) t))
+Inv-loop c t i₀ i = (i ≤ c .names) × (allb (nameFits (countsTold c)) (slice i (c .names) t) ≡ allb (nameFits (countsTold c)) (take (c .names) t))
 
 abbrev μ-loop : tie.MeasureT-loop
 μ-loop c t i₀ i = c .names - i

@@ -5,14 +5,14 @@ use borrow.Author.Tests.{not-true, not-false}
 use mathlib.Core.Path.{_≡_, refl, _∙_}
 use Prim.Native.Nat.{_≤_, _-_}
 use borrow.Author.Needs.{needs}
-use Rattle.rules.specs.Tables.{all, spanFits}
+use Rattle.rules.specs.Tables.{allb, spanFits}
 use Rattle.tables.specs.Lent.{countsTold}
 use Rattle.tables.proofs.Walks.{all-done, all-stop, all-more}
 use Rattle.tables.proofs.check.strings_fit.Statement.{statement}
 use Rattle.tables.proofs.check.strings_fit.Tie as tie
 
 abbrev Inv-loop : tie.InvT-loop
-Inv-loop c t i₀ i = (i ≤ c .strings) × (all (spanFits (countsTold c)) (slice i (c .strings) t) ≡ all (spanFits (countsTold c)) (take (c .strings) t))
+Inv-loop c t i₀ i = (i ≤ c .strings) × (allb (spanFits (countsTold c)) (slice i (c .strings) t) ≡ allb (spanFits (countsTold c)) (take (c .strings) t))
 
 abbrev μ-loop : tie.MeasureT-loop
 μ-loop c t i₀ i = c .strings - i

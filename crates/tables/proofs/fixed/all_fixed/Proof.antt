@@ -5,14 +5,14 @@ use lib.Seq.{slice}
 use lib.ListN.{take}
 use borrow.Author.Tests.{not-true, not-false}
 use borrow.Author.Needs.{needs}
-use Rattle.rules.specs.Tables.{all}
+use Rattle.rules.specs.Tables.{allb}
 use Rattle.tables.specs.Runs.{fixedWord}
 use Rattle.tables.proofs.Walks.{all-done, all-stop, all-more}
 use Rattle.tables.proofs.fixed.all_fixed.Statement.{statement}
 use Rattle.tables.proofs.fixed.all_fixed.Tie as tie
 
 abbrev Inv-loop : tie.InvT-loop
-Inv-loop sections n i₀ i = (i ≤ n) × (all fixedWord (slice i n sections) ≡ all fixedWord (take n sections))
+Inv-loop sections n i₀ i = (i ≤ n) × (allb fixedWord (slice i n sections) ≡ allb fixedWord (take n sections))
 
 abbrev μ-loop : tie.MeasureT-loop
 μ-loop sections n i₀ i = n - i
