@@ -114,15 +114,23 @@ pub fn take_val(c: &mut Counters) -> ValReg
     ValReg(v)
 }
 
+// A word behind the other instructions, whatever it is.
+pub fn emit_word(instrs: &mut [u64], c: Counters, w: Instruction) -> Counters
+    requires { ⌜ c .at < length (now instrs) ⌝ }
+    ensures { λ r. ⌜ (now (instrs .exit) ≡ set (now (instrs .entry)) (c .at) (w .0)) × (r ≡ plus-instr c) ⌝ }
+{
+    let mut d = c;
+    emit_at(instrs, &mut d, w);
+    d
+}
+
 // An instruction behind the others.
 pub fn emit(instrs: &mut [u64], c: Counters, w: Instruction) -> Counters
     requires { ⌜ c .at < length (now instrs) ⌝ }
     ensures spent { λ r. ⌜ Spent c r 1 0 0 0 0 ⌝ }
     ensures does { λ r. ⌜ ((i : Ins) → w .0 ≡ wordTo (c .err .0) i → DoesCode (emitS i) c (now (instrs .entry)) (now (instrs .exit)) 0 r) ⌝ }
 {
-    let mut d = c;
-    emit_at(instrs, &mut d, w);
-    d
+    emit_word(instrs, c, w)
 }
 
 // A number register that starts as z.
