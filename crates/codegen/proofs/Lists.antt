@@ -3,19 +3,16 @@ use mathlib.Core.Path.{_≡_, refl, sym, ap, _∙_}
 use mathlib.Core.List.{List, [], _∷_, _++_, map, append-assoc}
 use mathlib.Core.Option.{Option, none, some}
 use Prim.Native.Nat.{ℕ, zero, suc, _+_, _<_}
-use native.Mathlib.Nat.{add-zero, zero-add, add-suc, suc-add, add-assoc}
+use native.Mathlib.Nat.{add-zero, zero-add, add-assoc}
 use native.Mathlib.Omega.{arith}
 use lib.ListN.{length, set, getD, getElem?, length-append}
 use lib.Seq.{sets}
+use Rattle.laws.specs.Stores.{sets-sets}
 use Rattle.rules.specs.Word.{Span, spanWord}
 use Rattle.rules.specs.Lowered.{spans, texts}
 use Rattle.codegen.specs.Does.{regWord}
 
 -- ---- stores
-
-pub sets-sets : {A : Type 0} (vs : List A) (l : List A) (i : ℕ) (ws : List A) → sets (sets l i vs) (i + length vs) ws ≡ sets l i (vs ++ ws)
-sets-sets [] l i ws = rw add-zero refl
-sets-sets (v ∷ vs) l i ws = rw (add-suc, ← suc-add) (sets-sets vs (set l i v) (suc i) ws)
 
 pub sets-start : {A : Type 0} (vs l ws : List A) → sets (sets l 0 vs) (length vs) ws ≡ sets l 0 (vs ++ ws)
 sets-start vs l ws = rw zero-add at (sets-sets vs l 0 ws)

@@ -1,3 +1,4 @@
+pub mod Stores
 pub mod Pack
 pub mod Words
 pub mod Success

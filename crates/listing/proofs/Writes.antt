@@ -2,17 +2,13 @@
 use mathlib.Core.Path.{_≡_, refl, sym, ap, _∙_, subst}
 use mathlib.Core.List.{List, [], _∷_, _++_, append-assoc, append-nil}
 use Prim.Native.Nat.{ℕ, suc, _+_, _≤_, _<_}
-use native.Mathlib.Nat.{add-zero, zero-add, add-suc, suc-add}
+use native.Mathlib.Nat.{zero-add}
 use native.Mathlib.Numerals.{add-one}
 use native.Mathlib.Omega.{arith}
 use lib.ListN.{length, take, set, getD, length-append}
 use lib.Seq.{sets, sets-eq, length-sets, take-suc, take-all}
+use Rattle.laws.specs.Stores.{sets-sets}
 use Rattle.listing.specs.Wrote.{Room, Wrote, Prints}
-
--- a run of stores behind another, as codegen's law of the same name (Lists), which is not seen from here
-sets-sets : (vs l : List ℕ) (i : ℕ) (ws : List ℕ) → sets (sets l i vs) (i + length vs) ws ≡ sets l i (vs ++ ws)
-sets-sets [] l i ws = rw add-zero refl
-sets-sets (v ∷ vs) l i ws = rw (add-suc, ← suc-add) (sets-sets vs (set l i v) (suc i) ws)
 
 pub one : (o : List ℕ) (a b : ℕ) → Wrote o (set o a b) a (a + 1) (b ∷ [])
 one o a b = record { text = refl; stop = refl }

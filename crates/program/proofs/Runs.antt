@@ -5,7 +5,7 @@ use Prim.Native.Nat.{ℕ, zero, suc, _+_, _≤_, _<_}
 use native.Mathlib.Omega.{arith}
 use lib.ListN.{length, set}
 use lib.Seq.{sets}
-use Rattle.codegen.proofs.Lists.{sets-sets}
+use Rattle.laws.specs.Stores.{sets-sets}
 
 module _ {A : Type 0} where
   -- stores at two places change places

@@ -20,7 +20,8 @@ use Rattle.words.specs.Runs as Runs
 use Rattle.nodes.specs.Width.{width, orOne as orOneN}
 use Rattle.codegen.specs.declared.state.Counters.{Counters}
 use Rattle.codegen.specs.Does.{Lent}
-use Rattle.codegen.proofs.Lists.{sets-sets, map-append, length-map}
+use Rattle.laws.specs.Stores.{sets-sets}
+use Rattle.codegen.proofs.Lists.{map-append, length-map}
 use Rattle.stmts.specs.Makes.{Stored}
 use Rattle.stmts.specs.Lists.{Wrote, only, rest, before, onward, onwardB, isEnd, Single, Lists, Branch}
 

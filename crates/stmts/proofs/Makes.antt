@@ -20,7 +20,8 @@ use Rattle.rules.specs.Tree.{Assignop, Plain, AddTo, SubTo, MulTo, DivTo, ModTo
 use Rattle.stmts.specs.Told.{assignCost}
 use Rattle.codegen.specs.declared.state.Counters.{Counters}
 use Rattle.codegen.specs.Does.{wordTo, Lent, lent, Base, Stands, Does}
-use Rattle.codegen.proofs.Lists.{sets-sets, map-append, length-map}
+use Rattle.laws.specs.Stores.{sets-sets}
+use Rattle.codegen.proofs.Lists.{map-append, length-map}
 use Rattle.stmts.specs.Makes.{Regs, nothing, Makes, placed, jump, jumpCost}
 
 -- ---- in and out of a statement

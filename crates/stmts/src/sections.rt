@@ -2,7 +2,7 @@
 //
 // Each function is shown to make a section of what the step of `rules` emits (`Makes`); `codegen_from_own` chooses among them by the node's kind,
 // for lists and for lines (`OwnDone`). A caller owes the node table and room (`Holding`, `OwnReady`), a slot in the table of sections, and
-// instructions below 65,536. Only `emit_jump` lends the counters, and is proved by hand.
+// instructions below 65,536.
 ghost use mathlib.Core.Path.{_≡_};
 ghost use mathlib.Core.List.{List, map};
 ghost use lib.Seq.{sets};
@@ -11,7 +11,7 @@ ghost use Prim.Native.Nat.{ℕ, _+_, _*_, _-_, _≤_, _<_};
 ghost use lib.ListN.{length, getD, set};
 ghost use Rattle.rules.specs.Tree as Tree;
 ghost use Rattle.rules.specs.Tree.{Block, ofExpr};
-ghost use Rattle.codegen.specs.Costs.{Spent, plus-instr};
+ghost use Rattle.codegen.specs.Costs.{Spent};
 ghost use Rattle.exprs.specs.Exprs.{exprCost};
 ghost use Rattle.stmts.specs.Told.{assignCost};
 ghost use Rattle.rules.specs.Word.{runWord, insWord};
@@ -31,7 +31,7 @@ use crate::own::condition;
 use crate::own::line_number;
 use codegen::operators::codegen_incdec;
 use codegen::state::Counters;
-use codegen::state::emit_at;
+use codegen::state::emit_word;
 use codegen::state::index;
 use nodes::kinds::ASSIGN;
 use nodes::kinds::GOTO;
@@ -181,16 +181,6 @@ pub fn codegen_from_set(
     d
 }
 
-// A jump behind the other instructions, wherever it leads: `emit` is shown only for jumps to the next line.
-fn emit_jump(instrs: &mut [u64], c: Counters, jump: Instruction) -> Counters
-    requires { ⌜ c .at < length (now instrs) ⌝ }
-    ensures { λ r. ⌜ (now (instrs .exit) ≡ set (now (instrs .entry)) (c .at) (jump .0)) × (r ≡ plus-instr c) ⌝ }
-{
-    let mut d = c;
-    emit_at(instrs, &mut d, jump);
-    d
-}
-
 // An Ite's jump to its then-list, unless that is empty.
 fn add_jump(instrs: &mut [u64], c: Counters, empty: bool, target: Section, test: NumReg) -> Counters
     requires { ⌜ c .at < length (now instrs) ⌝ }
@@ -200,7 +190,7 @@ fn add_jump(instrs: &mut [u64], c: Counters, empty: bool, target: Section, test:
     if empty {
         return c;
     }
-    emit_jump(instrs, c, Instruction::jump_section_if(target, test))
+    emit_word(instrs, c, Instruction::jump_section_if(target, test))
 }
 
 // An Ite's own section: its condition, whose expression is at node i, and its jump. It is left to its else-list.

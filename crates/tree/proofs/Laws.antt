@@ -47,7 +47,7 @@ module _ {s : List ℕ} {c d : Cursor} {w v : ℕ} (l : byteBits * length s - c 
   fill-bits e = from-left w l (then _ (passes leftOver (lt-ltb w byteBits h)) (then _ (t .reads) (fails (ne-eqb v 0 e))))
 
   pub fill-ok : v ≡ 0 → Ended s c 0 d
-  fill-ok e = record { reads = from-left w l (then _ (passes leftOver (lt-ltb w byteBits h)) (then _ (t .reads) (passes leftOver (eq-eqb v 0 e)))); emptyTally = refl; moved = t .moved; fine = t .fine }
+  fill-ok e = record { reads = from-left w l (then _ (passes leftOver (lt-ltb w byteBits h)) (then _ (t .reads) (passes leftOver (eq-eqb v 0 e)))); none = refl; moved = t .moved; fine = t .fine }
 
 -- the bits that are left are there
 pub fill-there : {s : List ℕ} {c : Cursor} {w x : ℕ} → byteBits * length s - c .pos ≡ w → Fine s c → Gives (bits w) s (at c) (refused x) → ⊥
