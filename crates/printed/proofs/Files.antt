@@ -10,7 +10,7 @@ use lib.ListN.{length, take}
 use lib.Seq.{length-take-le}
 use borrow.Author.Tests.{le-leb, lt-leb}
 use Rattle.rules.specs.Bits.{Res, refused, ok}
-use Rattle.rules.specs.Constants.{finlistBytes, finlistSections, finlistInstrs, finlistNumbers, mostNodes}
+use Rattle.rules.specs.Constants.{finlistBytes, finlistSections, finlistInstrs, finlistNumbers, mostNodes, mostNames}
 use Rattle.rules.specs.Refusal as Refusal
 use Rattle.rules.specs.Tree.{Tree}
 use Rattle.rules.specs.Parse.{parse}
@@ -26,7 +26,7 @@ use Rattle.tree.specs.Files.{sized}
 use Rattle.tree.specs.declared.Sizes.{Sizes}
 use Rattle.tables.specs.Lent.{tables}
 use Rattle.tables.proofs.Sound.{no}
-use Rattle.printed.specs.Printed.{mostCharacters, mostNames, printed, Bounded, SizedRoom}
+use Rattle.printed.specs.Printed.{mostCharacters, printed, Bounded, SizedRoom}
 
 -- ---- longer than finlist reads, or refused
 

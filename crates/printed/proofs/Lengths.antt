@@ -10,7 +10,7 @@ use lib.IntN.{ℤ, pos, negsuc}
 use lib.ListN.{length, take, drop, length-append, length-map, length-take, take-append-drop}
 use borrow.Author.Tests.{lt-ltb}
 use lib.Seq.{length-take-le}
-use Rattle.rules.specs.Constants.{mark, mostNodes, finlistSections, finlistInstrs, finlistNumbers}
+use Rattle.rules.specs.Constants.{mark, mostNodes, finlistSections, finlistInstrs, finlistNumbers, mostNames}
 use Rattle.rules.specs.Bits.{isOne}
 use Rattle.rules.specs.Word.{wordIns, wordRun}
 use Rattle.rules.specs.Machine.{SectionCode}
@@ -23,7 +23,7 @@ use Rattle.tables.specs.Runs.{countOf, sectionOf, held}
 use Rattle.tables.proofs.Sound.{sound}
 use Rattle.tables.proofs.Read.{read-nil, read-cons, count-is}
 use Rattle.tables.proofs.Change.{machineOf}
-use Rattle.printed.specs.Printed.{mostCharacters, mostNames}
+use Rattle.printed.specs.Printed.{mostCharacters}
 
 -- ---- fields
 

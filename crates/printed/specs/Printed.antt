@@ -2,10 +2,10 @@
 use mathlib.Core.Path.{_≡_}
 use mathlib.Core.Bool.{true, false}
 use mathlib.Core.List.{List}
-use Prim.Native.Nat.{ℕ, _-_, _*_, _/_, _^_, _≤_}
+use Prim.Native.Nat.{ℕ, _*_, _/_, _≤_}
 use lib.ListN.{length}
 use Rattle.rules.specs.Bits.{refused, ok}
-use Rattle.rules.specs.Constants.{mostBytes, mostNodes, nameBits, charBits, byteBits, finlistBytes, finlistSections, finlistInstrs, finlistNumbers}
+use Rattle.rules.specs.Constants.{mostBytes, mostNodes, mostNames, charBits, byteBits, finlistBytes, finlistSections, finlistInstrs, finlistNumbers}
 use Rattle.rules.specs.Refusal as Refusal
 use Rattle.rules.specs.Parse.{parse}
 use Rattle.rules.specs.Tables.{Tables}
@@ -18,10 +18,6 @@ use Rattle.tree.specs.declared.Sizes.{Sizes}
 -- the characters of a file's strings at most: as many as the bits of the longest tree file hold
 abbrev pub mostCharacters : ℕ
 mostCharacters = mostBytes * byteBits / charBits
-
--- the names of a file at most: as many as the field of their count holds
-abbrev pub mostNames : ℕ
-mostNames = 2 ^ nameBits - 1
 
 -- the rows of the tree's finished machine, or the refusal
 unfoldable pub printed : List ℕ → Tables → List ℕ

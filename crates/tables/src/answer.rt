@@ -9,7 +9,7 @@ pub enum Answer {
 
 // The refusals.
 impl Answer {
-    // No slot for an added number or string.
+    // A lent table is shorter than its estimate; for replace, no slot for an added number or string.
     pub const NO_ROOM: u64 = 11;
 
     // Words break the rules.
