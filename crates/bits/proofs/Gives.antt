@@ -250,7 +250,7 @@ took h e = rw e at (h .here)
 pub failed : {m : Reader ℕ} {s : List ℕ} {c : Cursor} {n k l x : ℕ} {st : Step} → Takes m s c n k l st → st ≡ Refused x → Gives m s (at c) (refused x)
 failed h e = rw e at (h .here)
 
-pub skipped : {s : List ℕ} {c d : Cursor} {n v : ℕ} {st : Step} → Skips n s c st → st ≡ Next v d → Skipped n s c d
+pub skipped : {s : List ℕ} {c d : Cursor} {n v : ℕ} {st : Step} → Skips n s c st → st ≡ Next v d → Skipped n s c v d
 skipped h e = rw e at (h .here)
 
 pub not-skipped : {s : List ℕ} {c : Cursor} {n x : ℕ} {st : Step} → Skips n s c st → st ≡ Refused x → Gives (many n (bits charBits)) s (at c) (refused x)
@@ -300,14 +300,14 @@ begun-out w d {s} {x} {c} z h g = begin-then w d z (begins s c h) (recount-out w
 
 -- ---- bits that are passed over
 
-pub passed : {s : List ℕ} {c d : Cursor} {w v : ℕ} {st : Step} → Passes w s c st → st ≡ Next v d → Passed w s c d
+pub passed : {s : List ℕ} {c d : Cursor} {w v : ℕ} {st : Step} → Passes w s c st → st ≡ Next v d → Passed w s c v d
 passed h e = rw e at (h .here)
 
 pub not-passed : {s : List ℕ} {c : Cursor} {w x : ℕ} {st : Step} → Passes w s c st → st ≡ Refused x → Ends w s c x
 not-passed h e = rw e at (h .here)
 
 -- as a field
-pub pass-bits : {s : List ℕ} {c d : Cursor} {w : ℕ} → Passed w s c d → Gives (bits w) s (at c) (ok (spelled s w (c .pos), at d))
+pub pass-bits : {s : List ℕ} {c d : Cursor} {w v : ℕ} → Passed w s c v d → Gives (bits w) s (at c) (ok (spelled s w (c .pos), at d))
 pass-bits {s} {c} {d} {w} h =
     let m = h .moved in
     let n : d .nodes ≡ c .nodes = omega arith in
@@ -322,5 +322,5 @@ pass-chars n {s} {c} (Next v d) f p =
     let h = p .here in
     let m = h .moved in
     let k : d .nodes ≡ c .nodes = omega arith in
-    record { here = record { reads = rw (h .place, k) (chars-in n s (c .pos) (c .nodes) (h .inside)); place = h .place; moved = m; fine = h .fine } }
+    record { here = record { reads = rw (h .place, k) (chars-in n s (c .pos) (c .nodes) (h .inside)); valueless = h .valueless; place = h .place; moved = m; fine = h .fine } }
 pass-chars n {s} {c} (Refused x) f p = let h = p .here in record { here = rw (h .is) (chars-out n s (c .pos) (c .nodes) (f .inside) (h .outside)) }

@@ -89,9 +89,10 @@ unfoldable pub charsAt : List ℕ → ℕ → ℕ → List ℕ
 charsAt s zero p = []
 charsAt s (suc n) p = spelled s charBits p ∷ charsAt s n (p + charBits)
 
--- w bits are there, and are passed over
-pub record Passed (w : ℕ) (s : List ℕ) (c c' : Cursor) : Type 0 where
+-- w bits are there, and are passed over: the step has no value
+pub record Passed (w : ℕ) (s : List ℕ) (c : Cursor) (v : ℕ) (c' : Cursor) : Type 0 where
   pub inside : c .pos + w ≤ byteBits * length s
+  pub valueless : v ≡ 0
   pub place : c' .pos ≡ c .pos + w
   pub moved : Moved 0 0 c c'
   pub fine : Fine s c'
@@ -102,20 +103,21 @@ pub record Ends (w : ℕ) (s : List ℕ) (c : Cursor) (k : ℕ) : Type 0 where
   pub outside : byteBits * length s < c .pos + w
 
 abbrev pub PassesAt : ℕ → List ℕ → Cursor → Step → Type 0
-PassesAt w s c (Next v c') = Passed w s c c'
+PassesAt w s c (Next v c') = Passed w s c v c'
 PassesAt w s c (Refused k) = Ends w s c k
 
 pub record Passes (w : ℕ) (s : List ℕ) (c : Cursor) (st : Step) : Type 0 where
   pub here : PassesAt w s c st
 
-pub record Skipped (n : ℕ) (s : List ℕ) (c c' : Cursor) : Type 0 where
+pub record Skipped (n : ℕ) (s : List ℕ) (c : Cursor) (v : ℕ) (c' : Cursor) : Type 0 where
   pub reads : Gives (many n (bits charBits)) s (at c) (ok (charsAt s n (c .pos), at c'))
+  pub valueless : v ≡ 0
   pub place : c' .pos ≡ c .pos + charBits * n
   pub moved : Moved 0 0 c c'
   pub fine : Fine s c'
 
 abbrev pub SkipsAt : ℕ → List ℕ → Cursor → Step → Type 0
-SkipsAt n s c (Next v c') = Skipped n s c c'
+SkipsAt n s c (Next v c') = Skipped n s c v c'
 SkipsAt n s c (Refused k) = Gives (many n (bits charBits)) s (at c) (refused k)
 
 pub record Skips (n : ℕ) (s : List ℕ) (c : Cursor) (st : Step) : Type 0 where

@@ -42,7 +42,7 @@ pub struct Cursor {
     pub chars: usize,
 }
 
-// What a step of the reader gives: a number and the next cursor, or the number that refuses the file.
+// What a step of the reader gives: a number (0 where it has none to give) and the next cursor, or the number that refuses the file.
 pub enum Step {
     Next(u64, Cursor),
     Refused(u64),

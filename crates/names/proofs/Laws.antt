@@ -154,8 +154,8 @@ names-end zero ys h = done
 names-end (suc l) ys h = absurd (omega arith)
 
 module _ {n : ℕ} {s : List ℕ} {c d : Cursor} {k : ℕ} (m : NamesMid n s c d k) where
-  pub names-more : {e : Cursor} → k < n → Named s d e → known (nameAt s (d .pos)) (namesAt s k (c .pos)) ≡ false → NamesMid n s c e (k + 1)
-  names-more {e} h x z =
+  pub names-more : {v : ℕ} {e : Cursor} → k < n → Named s d v e → known (nameAt s (d .pos)) (namesAt s k (c .pos)) ≡ false → NamesMid n s c e (k + 1)
+  names-more {e = e} h x z =
       let v = m .moved in
       let w = x .moved in
       let i : n - (k + 1) ≡ n - k - 1 = omega arith in
@@ -170,14 +170,14 @@ module _ {n : ℕ} {s : List ℕ} {c d : Cursor} {k : ℕ} (m : NamesMid n s c d
   pub names-stop : {x : ℕ} → k < n → Gives name s (at d) (refused x) → Gives (names n []) s (at c) (refused x)
   names-stop h g = m .goes _ (names-short (n - k) _ (omega arith) g)
 
-  pub names-old : {e : Cursor} → k < n → Named s d e → known (nameAt s (d .pos)) (namesAt s k (c .pos)) ≡ true → Gives (names n []) s (at c) (refused equalNames)
+  pub names-old : {v : ℕ} {e : Cursor} → k < n → Named s d v e → known (nameAt s (d .pos)) (namesAt s k (c .pos)) ≡ true → Gives (names n []) s (at c) (refused equalNames)
   names-old h x z = m .goes _ (names-twice (n - k) _ (omega arith) (x .reads) z)
 
-  pub names-done : n ≤ k → k ≤ n → NamedAll n s c d
+  pub names-done : n ≤ k → k ≤ n → NamedAll n s c 0 d
   names-done h l =
       let e : n ≡ k = omega arith in
       let f : namesAt s n (c .pos) ≡ namesAt s k (c .pos) = ap (λ (x : ℕ). namesAt s x (c .pos)) e in
-      record { reads = rw f (m .goes _ (names-end (n - k) (namesAt s k (c .pos)) (omega arith))); place = m .place ∙ ap (λ (x : ℕ). endAt s x (c .pos)) (sym e); moved = m .moved; fine = m .fine }
+      record { reads = rw f (m .goes _ (names-end (n - k) (namesAt s k (c .pos)) (omega arith))); valueless = refl; place = m .place ∙ ap (λ (x : ℕ). endAt s x (c .pos)) (sym e); moved = m .moved; fine = m .fine }
 
 pub names-start : (n : ℕ) (s : List ℕ) (c : Cursor) → Fine s c → NamesMid n s c c 0
 unfolding namesAt endAt
@@ -200,6 +200,7 @@ one-built {s = s} {c = c} {d = d} {e = e} {f = f} {l = l} b x (Next v g) u =
     record {
       here = record {
         reads = rw (← p .is, ← k, ← y) (then _ (b .reads) (then _ (x .reads) (then _ (rw add-one at (h .reads)) done)));
+        valueless = h .valueless;
         place = rw (← y) (omega (arith, h .place));
         moved = omega arith;
         fine = h .fine;
@@ -210,14 +211,14 @@ one-built b x (Refused k) u = record { here = then _ (b .reads) (then _ (x .read
 pub next-in : (s : List ℕ) (k q : ℕ) → 0 < k → nextName s q ≤ endAt s k q
 next-in s k q h = let e = end-more s k q h in let g = end-ge s (k - 1) (nextName s q) in omega arith
 
-pub one-ok : {s : List ℕ} {c d : Cursor} {v : ℕ} {st : Step} → NamesOne s c st → st ≡ Next v d → Named s c d
+pub one-ok : {s : List ℕ} {c d : Cursor} {v : ℕ} {st : Step} → NamesOne s c st → st ≡ Next v d → Named s c v d
 one-ok h e = rw e at (h .here)
 
 pub one-no : {s : List ℕ} {c : Cursor} {x : ℕ} {st : Step} → NamesOne s c st → st ≡ Refused x → Gives name s (at c) (refused x)
 one-no h e = rw e at (h .here)
 
 -- opening the answer
-pub named-ok : {n : ℕ} {s : List ℕ} {c d : Cursor} {v : ℕ} {st : Step} → NamesAll n s c st → st ≡ Next v d → NamedAll n s c d
+pub named-ok : {n : ℕ} {s : List ℕ} {c d : Cursor} {v : ℕ} {st : Step} → NamesAll n s c st → st ≡ Next v d → NamedAll n s c v d
 named-ok h e = rw e at (h .here)
 
 pub named-no : {n : ℕ} {s : List ℕ} {c : Cursor} {x : ℕ} {st : Step} → NamesAll n s c st → st ≡ Refused x → Gives (names n []) s (at c) (refused x)

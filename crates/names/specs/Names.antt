@@ -40,29 +40,31 @@ unfoldable pub endAt : List ℕ → ℕ → ℕ → ℕ
 endAt s zero p = p
 endAt s (suc k) p = endAt s k (nextName s p)
 
--- a name is read
-pub record Named (s : List ℕ) (c c' : Cursor) : Type 0 where
+-- a name is read: the step has no value
+pub record Named (s : List ℕ) (c : Cursor) (v : ℕ) (c' : Cursor) : Type 0 where
   pub reads : Gives name s (at c) (ok (nameAt s (c .pos), at c'))
+  pub valueless : v ≡ 0
   pub place : c' .pos ≡ nextName s (c .pos)
   pub moved : Moved 0 0 c c'
   pub fine : Fine s c'
 
 abbrev pub NamesOneAt : List ℕ → Cursor → Step → Type 0
-NamesOneAt s c (Next v c') = Named s c c'
+NamesOneAt s c (Next v c') = Named s c v c'
 NamesOneAt s c (Refused k) = Gives name s (at c) (refused k)
 
 pub record NamesOne (s : List ℕ) (c : Cursor) (st : Step) : Type 0 where
   pub here : NamesOneAt s c st
 
 -- n names are read
-pub record NamedAll (n : ℕ) (s : List ℕ) (c c' : Cursor) : Type 0 where
+pub record NamedAll (n : ℕ) (s : List ℕ) (c : Cursor) (v : ℕ) (c' : Cursor) : Type 0 where
   pub reads : Gives (names n []) s (at c) (ok (namesAt s n (c .pos), at c'))
+  pub valueless : v ≡ 0
   pub place : c' .pos ≡ endAt s n (c .pos)
   pub moved : Moved 0 0 c c'
   pub fine : Fine s c'
 
 abbrev pub NamesAllAt : ℕ → List ℕ → Cursor → Step → Type 0
-NamesAllAt n s c (Next v c') = NamedAll n s c c'
+NamesAllAt n s c (Next v c') = NamedAll n s c v c'
 NamesAllAt n s c (Refused k) = Gives (names n []) s (at c) (refused k)
 
 pub record NamesAll (n : ℕ) (s : List ℕ) (c : Cursor) (st : Step) : Type 0 where

@@ -15,7 +15,7 @@ use Rattle.bits.specs.declared.Step.{Step}
 use Rattle.bits.specs.declared.Step.the-variants.{Next, Refused}
 use Rattle.nodes.specs.Words.{incdecKind, stepKind}
 use Rattle.nodes.specs.Width.{width}
-use Rattle.nodes.specs.Builds.{Agree, Built, Builds, Closed, leafR, flagR, heldF, countF, heldE, countE, heldS, countS, before}
+use Rattle.nodes.specs.Builds.{Agree, Built, Builds, Closed, leafR, flagR, heldF, countF, heldE, countE, heldS, countS, Valueless, before}
 use Rattle.nodes.specs.Holds.{at-incdec}
 use Rattle.bits.proofs.Gives.{then, stop, done, Seen, said, see, unique, refuses as refuses-at}
 use Rattle.nodes.proofs.Table.{agree-trans, set-below, set-above, set-here}
@@ -33,21 +33,22 @@ module _ {A : Type 0} {r : Reader A} {H : List ℕ → ℕ → ℕ → A → ℕ
   pub refuses : {x : ℕ} → st ≡ Refused x → Gives r s (at c) (refused x) → Builds r H Q s t t' b c st
   refuses e g = rw e (record { here = g })
 
-  -- a node whose word is written last, over what stands in u
-  pub sealed : (val : A) (u : List ℕ) (w : ℕ) {d : Cursor} → Closed u t' (b .nodes) w d st → b .nodes < length u → Gives r s (at c) (ok (val, at d)) → Agree 0 (b .nodes) t u
-      → (getD t' (b .nodes) 0 ≡ w → Agree (b .nodes + 1) (d .nodes) u t' → H t' 0 (b .nodes) val (d .nodes)) → Q val b d → Fine s d → Builds r H Q s t t' b c st
-  sealed val u w {d} e h g a f k n =
-      let i = b .nodes in
-      rw (e .next) (record {
-        here = record {
-          val = val;
-          reads = g;
-          holds = f (set-here u t' i w (e .is) h) (set-above u t' i (d .nodes) w (e .is));
-          kept = agree-trans a (set-below u t' i w (e .is));
-          counts = k;
-          fine = n;
-        };
-      })
+-- a node whose word is written last, over what stands in u
+pub sealed : {A : Type 0} {r : Reader A} {H : List ℕ → ℕ → A → ℕ → Type 0} {Q : A → Cursor → Cursor → Type 0} {s t t' : List ℕ} {b c : Cursor} {st : Step} (val : A) (u : List ℕ) (w : ℕ) {d : Cursor} → Closed u t' (b .nodes) w d st → b .nodes < length u
+    → Gives r s (at c) (ok (val, at d)) → Agree 0 (b .nodes) t u → (getD t' (b .nodes) 0 ≡ w → Agree (b .nodes + 1) (d .nodes) u t' → H t' (b .nodes) val (d .nodes)) → Q val b d → Fine s d
+    → Builds r (λ t v i x j. Valueless (H t i x j) v) Q s t t' b c st
+sealed {t' = t'} {b = b} val u w {d} e h g a f k n =
+    let i = b .nodes in
+    rw (e .next) (record {
+      here = record {
+        val = val;
+        reads = g;
+        holds = record { is = f (set-here u t' i w (e .is) h) (set-above u t' i (d .nodes) w (e .is)); valueless = refl };
+        kept = agree-trans a (set-below u t' i w (e .is));
+        counts = k;
+        fine = n;
+      };
+    })
 
 -- a step behind another: what the rest q gives from c1, r gives from c
 pub behind : {A : Type 0} {H : List ℕ → ℕ → ℕ → A → ℕ → Type 0} {Q : A → Cursor → Cursor → Type 0} {q r : Reader A} {s t t' : List ℕ} {b b1 c c1 : Cursor} {st : Step}
@@ -84,7 +85,7 @@ incdec-leaf n i {st = Next v d} u =
       here = record {
         val = Expr.incdec (isOne (h .val .0)) (h .val .1);
         reads = repure (bits flagBits) (nameOf n) (λ b x. Expr.incdec (isOne b) x) (h .reads);
-        holds = at-incdec (h .val .0) _ (h .val .1) refl (h .holds);
+        holds = record { is = at-incdec (h .val .0) _ (h .val .1) refl (h .holds .is); valueless = h .holds .valueless };
         kept = h .kept;
         counts = omega arith;
         fine = h .fine;
@@ -103,7 +104,7 @@ incdec-stmt n i {st = Next v d} p q r x y u =
       here = record {
         val = Block.incdec (isOne (h .val .0)) (h .val .1);
         reads = repure (bits flagBits) (nameOf n) (λ b x. Block.incdec (isOne b) x) (h .reads);
-        holds = rw p (put-step f);
+        holds = rw p (record { is = put-step (f .is); valueless = f .valueless });
         kept = rw p (h .kept);
         counts = record { adds = λ xs e k. omega arith };
         fine = h .fine;

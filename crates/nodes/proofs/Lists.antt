@@ -55,7 +55,7 @@ mid-start n dep s t c total h = record { pre = λ xs. xs; goes = λ xs d g. g; s
 pub mid-more : {n dep : ℕ} {s t0 t t' : List ℕ} {c0 c : Cursor} {total left v : ℕ} {d : Cursor} → Midway n dep s t0 t c0 c total left → 0 < left
     → Built (stmt n dep) (heldS s n) countS s t t' c c v d → Midway n dep s t0 t' c0 d total (left - 1)
 mid-more {left = left} {d = d} m h x =
-    let g = x .holds .grows in
+    let g = x .holds .is .grows in
     let a = m .after in
     record {
       pre = λ xs. m .pre (x .val xs);
@@ -63,7 +63,7 @@ mid-more {left = left} {d = d} m h x =
       stops = λ z y. m .stops z (block-later left h (x .reads) y);
       holds = λ u xs j b y.
           m .holds u (x .val xs) j (agree-trans (agree-part (x .kept) (omega arith) (omega arith)) (agree-part b (omega arith) (omega arith)))
-          (x .holds .puts u left (left - 1) xs j (omega arith) (agree-part b (omega arith) (omega arith)) y);
+          (x .holds .is .puts u left (left - 1) xs j (omega arith) (agree-part b (omega arith) (omega arith)) y);
       counts = λ xs e y. m .counts (x .val xs) e (x .counts .adds xs e y);
       kept = agree-trans (m .kept) (agree-part (x .kept) (omega arith) (omega arith));
       after = omega arith;

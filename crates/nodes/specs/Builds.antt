@@ -44,10 +44,15 @@ BuildsAt r H Q s t t' b c (Refused k) = Gives r s (at c) (refused k)
 pub record Builds {A : Type 0} (r : Reader A) (H : List ℕ → ℕ → ℕ → A → ℕ → Type 0) (Q : A → Cursor → Cursor → Type 0) (s t t' : List ℕ) (b c : Cursor) (st : Step) : Type 0 where
   pub here : BuildsAt r H Q s t t' b c st
 
+-- P, of a step that has no value: it answers 0
+pub record Valueless (P : Type 0) (v : ℕ) : Type 0 where
+  pub is : P
+  pub valueless : v ≡ 0
+
 -- ---- an expression
 
 abbrev pub heldE : List ℕ → ℕ → List ℕ → ℕ → ℕ → Expr → ℕ → Type 0
-heldE s n t v i e j = HoldsE t s n i e j
+heldE s n t v i e j = Valueless (HoldsE t s n i e j) v
 
 abbrev pub countE : Expr → Cursor → Cursor → Type 0
 countE e b c = Counted (ofExpr e) 0 b c
@@ -82,7 +87,7 @@ pub record HeldS (s : List ℕ) (n : ℕ) (t : List ℕ) (i : ℕ) (f : Block �
   pub grows : i < l
 
 abbrev pub heldS : List ℕ → ℕ → List ℕ → ℕ → ℕ → (Block → Block) → ℕ → Type 0
-heldS s n t v i f l = HeldS s n t i f l
+heldS s n t v i f l = Valueless (HeldS s n t i f l) v
 
 pub record Adds (f : Block → Block) (b c : Cursor) : Type 0 where
   pub adds : (xs : Block) (e : Cursor) → countB xs c e → countB (f xs) b e
@@ -149,7 +154,7 @@ flagR n = do
   succeed (b, x)
 
 abbrev pub heldF : ℕ → ℕ → List ℕ → ℕ → ℕ → ℕ × ℕ → ℕ → Type 0
-heldF kind n t v i p j = Flag kind n t i (p .0) (p .1) j
+heldF kind n t v i p j = Valueless (Flag kind n t i (p .0) (p .1) j) v
 
 -- one node more, whatever it is
 pub record OneNode (b c : Cursor) : Type 0 where

@@ -47,7 +47,7 @@ module _ {s : List ℕ} {c d : Cursor} {w v : ℕ} (l : byteBits * length s - c 
   fill-bits e = from-left w l (then _ (passes leftOver (lt-ltb w byteBits h)) (then _ (t .reads) (fails (ne-eqb v 0 e))))
 
   pub fill-ok : v ≡ 0 → Ended s c 0 d
-  fill-ok e = record { reads = from-left w l (then _ (passes leftOver (lt-ltb w byteBits h)) (then _ (t .reads) (passes leftOver (eq-eqb v 0 e)))); none = refl; moved = t .moved; fine = t .fine }
+  fill-ok e = record { reads = from-left w l (then _ (passes leftOver (lt-ltb w byteBits h)) (then _ (t .reads) (passes leftOver (eq-eqb v 0 e)))); valueless = refl; moved = t .moved; fine = t .fine }
 
 -- the bits that are left are there
 pub fill-there : {s : List ℕ} {c : Cursor} {w x : ℕ} → byteBits * length s - c .pos ≡ w → Fine s c → Gives (bits w) s (at c) (refused x) → ⊥
@@ -127,19 +127,20 @@ module _ {n total : ℕ} {s t ls : List ℕ} {c d : Cursor} {k : ℕ} (m : Lines
   pub lines-stop : {x : ℕ} → k < total → Gives (listR n mostDepth) s (at d) (refused x) → Gives (many total (lineBlock n)) s (at c) (refused x)
   lines-stop {x} h g = m .stops x (many-stop (total - k) (omega arith) (line-from n g))
 
-  pub lines-done : total ≤ k → k ≤ total → Lined n total s t ls c d
+  pub lines-done : total ≤ k → k ≤ total → Lined n total s t ls c 0 d
   unfolding ofLines emptyTally widths
   lines-done h l =
       record {
         val = m .pre [];
         reads = m .goes [] (at d) (many-end (total - k) _ (omega arith));
+        valueless = refl;
         holds = m .holds t ls [] (d .nodes) agree-refl agree-refl (no-line (omega arith) refl);
         counts = m .counts [] d (omega arith);
         many-lines = m .many-lines [] ∙ omega arith;
         fine = m .fine;
       }
 
-pub lined : {n total : ℕ} {s t ls : List ℕ} {c d : Cursor} {v : ℕ} {st : Step} → LinesRead n total s t ls c st → st ≡ Next v d → Lined n total s t ls c d
+pub lined : {n total : ℕ} {s t ls : List ℕ} {c d : Cursor} {v : ℕ} {st : Step} → LinesRead n total s t ls c st → st ≡ Next v d → Lined n total s t ls c v d
 lined h e = rw e at (h .here)
 
 pub not-lined : {n total : ℕ} {s t ls : List ℕ} {c : Cursor} {x : ℕ} {st : Step} → LinesRead n total s t ls c st → st ≡ Refused x → Gives (many total (lineBlock n)) s (at c) (refused x)
@@ -221,7 +222,7 @@ placed s n p e h =
     let u = names-length s n p in
     record { are = rw (u, e) refl; inside = rw (u, ← e) h }
 
-pub filed : {s t ls : List ℕ} {v w : ℕ} {c3 c4 c5 c6 : Cursor} → Headed s v c3 → NamedAll (v / headValues) s c3 c4 → Lined (v / headValues) (v % headValues) s t ls c4 c5 → Ended s c5 w c6 → Filed s t ls v c6
+pub filed : {s t ls : List ℕ} {v x y z : ℕ} {c3 c4 c5 c6 : Cursor} → Headed s v c3 → NamedAll (v / headValues) s c3 x c4 → Lined (v / headValues) (v % headValues) s t ls c4 y c5 → Ended s c5 z c6 → Filed s t ls v c6
 unfolding body
 filed {s = s} {v = v} {c3 = c3} {c4 = c4} {c5 = c5} {c6 = c6} h x y z =
     let p = x .moved in

@@ -35,17 +35,18 @@ unfoldable pub widths : List Block → ℕ
 widths [] = 0
 widths (b ∷ bs) = width b + widths bs
 
--- all lines are read
-pub record Lined (n total : ℕ) (s t ls : List ℕ) (c c' : Cursor) : Type 0 where
+-- all lines are read: the step has no value
+pub record Lined (n total : ℕ) (s t ls : List ℕ) (c : Cursor) (v : ℕ) (c' : Cursor) : Type 0 where
   pub val : List Block
   pub reads : Gives (many total (lineBlock n)) s (at c) (ok (val, at c'))
+  pub valueless : v ≡ 0
   pub holds : HoldsL t ls s n 0 (c .nodes) val total (c' .nodes)
   pub counts : Counted (ofLines val) (widths val) c c'
   pub many-lines : length val ≡ total
   pub fine : Fine s c'
 
 abbrev pub LinesAt : ℕ → ℕ → List ℕ → List ℕ → List ℕ → Cursor → Step → Type 0
-LinesAt n total s t ls c (Next v c') = Lined n total s t ls c c'
+LinesAt n total s t ls c (Next v c') = Lined n total s t ls c v c'
 LinesAt n total s t ls c (Refused k) = Gives (many total (lineBlock n)) s (at c) (refused k)
 
 pub record LinesRead (n total : ℕ) (s t ls : List ℕ) (c : Cursor) (st : Step) : Type 0 where
@@ -62,10 +63,10 @@ pub record LinesMid (n total : ℕ) (s t ls : List ℕ) (c c' : Cursor) (k : ℕ
   pub after : c .nodes ≤ c' .nodes
   pub fine : Fine s c'
 
--- the fill is read, which has no value
+-- the fill is read: the step has no value
 pub record Ended (s : List ℕ) (c : Cursor) (v : ℕ) (c' : Cursor) : Type 0 where
   pub reads : Gives fill s (at c) (ok (tt, at c'))
-  pub none : v ≡ 0
+  pub valueless : v ≡ 0
   pub moved : Moved 0 0 c c'
   pub fine : Fine s c'
 

@@ -215,7 +215,7 @@ module _ (t : ℕ) where
       sealed _ _ _ (c .before .before .close .ensures) (omega arith)
       (arm-binop _ _ (c .before .before .before .before .before .before .before .before .before .before .before .before .before .before .before .before .before .before .before .before .before .before .match2 .keys1) (b .reads) (then _ (op-ok binops 4 14 (o .reads) (q .is)) (then _ (l .reads) (then _ (r .reads) done))))
       (agree-trans (agree-part (l .kept) (omega arith) (omega arith)) (agree-part (r .kept) (omega arith) (omega arith)))
-      (λ w a. at-binop _ _ (q .is) w (omega arith) (moved (agree-trans (agree-part (r .kept) (omega arith) (omega arith)) (agree-part a (omega arith) (omega arith))) (l .holds)) (moved (agree-part a (omega arith) (omega arith)) (r .holds)))
+      (λ w a. at-binop _ _ (q .is) w (omega arith) (moved (agree-trans (agree-part (r .kept) (omega arith) (omega arith)) (agree-part a (omega arith) (omega arith))) (l .holds .is)) (moved (agree-part a (omega arith) (omega arith)) (r .holds .is)))
       (omega arith) (r .fine)
 
   same-length-5 : read-expr-lts.Need-same-length-5 claims given read-expr.Post
@@ -233,7 +233,7 @@ module _ (t : ℕ) where
       sealed _ _ _ (c .before .before .close2 .ensures) (omega arith)
       (arm-unop _ _ (c .before .before .before .before .before .before .before .before .before .before .before .before .before .before .before .match2 .keys2) (b .reads) (then _ (op-ok unops 4 11 (o .reads) (q .is)) (then _ (r .reads) done)))
       (agree-part (r .kept) (omega arith) (omega arith))
-      (λ w a. at-unop _ _ (q .is) w (omega arith) (moved (agree-part a (omega arith) (omega arith)) (r .holds)))
+      (λ w a. at-unop _ _ (q .is) w (omega arith) (moved (agree-part a (omega arith) (omega arith)) (r .holds .is)))
       (omega arith) (r .fine)
 
   same-length-6 : read-expr-lts.Need-same-length-6 claims given read-expr.Post

@@ -290,7 +290,7 @@ read-stmt-returns-6 t c =
     (arm-ite _ _ (c .before .before .before .before .before .before .before .before .before .before .before .before .before .before .before .before .before .before .before .before .before .before .before .before .before .match2 .keys2) (b .reads) (then _ (x .reads) (list-then _ _ _ (y .reads) (list-then _ _ _ (z .reads) done))))
     (agree-trans (agree-part (x .kept) (omega arith) (omega arith)) (agree-trans (agree-part (y .kept) (omega arith) (omega arith)) (agree-part (z .kept) (omega arith) (omega arith))))
     (λ w a. put-ite _ _ _ _ w (ite-lists (y .val) (z .val) n2 n3 (y .holds .few) (z .holds .few) (omega arith) (z .fine)) (b .moved .nodes)
-    (moved (agree-trans (agree-part (y .kept) (omega arith) (omega arith)) (agree-trans (agree-part (z .kept) (omega arith) (omega arith)) (agree-part a (omega arith) (omega arith)))) (x .holds))
+    (moved (agree-trans (agree-part (y .kept) (omega arith) (omega arith)) (agree-trans (agree-part (z .kept) (omega arith) (omega arith)) (agree-part a (omega arith) (omega arith)))) (x .holds .is))
     (moved-b (agree-trans (agree-part (z .kept) (omega arith) (omega arith)) (agree-part a (omega arith) (omega arith))) (y .holds .is))
     (moved-b (agree-part a (omega arith) (omega arith)) (z .holds .is)))
     (ite-adds (y .val) (z .val) n2 n3 q n) (ite-fine (y .val) (z .val) n2 n3 (omega arith) (z .fine))

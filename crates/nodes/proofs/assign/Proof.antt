@@ -92,7 +92,7 @@ returns-4 c =
     let n = r .counts in
     sealed _ _ _ (c .before .before .close .ensures) (omega arith) (then _ (named _ (x .reads)) (then _ (op-ok assignops 3 7 (o .reads) (q .is)) (then _ (r .reads) done)))
     (agree-part (r .kept) (omega arith) (omega arith))
-    (λ w a. put-assign _ _ _ (q .is) w (x .small) (omega arith) (moved (agree-part a (omega arith) (omega arith)) (r .holds)))
+    (λ w a. put-assign _ _ _ (q .is) w (x .small) (omega arith) (moved (agree-part a (omega arith) (omega arith)) (r .holds .is)))
     (record { adds = λ xs e q. omega arith }) (r .fine)
 
 pub assign-spec : {M : Type 1} → statement M

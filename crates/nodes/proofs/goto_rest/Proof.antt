@@ -48,7 +48,7 @@ returns-2 c =
     let n = r .counts in
     sealed _ _ _ (c .before .before .close .ensures) (omega arith) (then _ (r .reads) done)
     (agree-part (r .kept) (omega arith) (omega arith))
-    (λ w a. put-goto w (p .node .begun) (moved (agree-part a (omega arith) (omega arith)) (r .holds)))
+    (λ w a. put-goto w (p .node .begun) (moved (agree-part a (omega arith) (omega arith)) (r .holds .is)))
     (record { adds = λ xs e q. omega arith }) (r .fine)
 
 pub goto-rest-spec : {M : Type 1} → statement M
