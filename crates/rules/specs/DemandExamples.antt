@@ -65,9 +65,9 @@ late-question s = let t = s .stops [] (atGoto 0) .1 (0, refl) in let e : _≡_ {
 abbrev pub few : Counts
 few = record { lines = 1; sections = 1; instrs = 0; numbers = 1; strings = 2; pool = 0; values = 3; names = 0 }
 
-pub inside : RegistersBelow few (ins₂ Op.ValueifyNum 0 2)
+pub registers-inside : RegistersBelow few (ins₂ Op.ValueifyNum 0 2)
 unfolding kinds
-inside = (omega arith, omega arith, refl)
+registers-inside = (omega arith, omega arith, refl)
 
 pub number-outside : RegistersBelow few (ins₂ Op.ValueifyNum 1 0) → ⊥
 unfolding kinds
