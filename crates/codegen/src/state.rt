@@ -3,8 +3,8 @@
 //
 // Each step is shown to do what the step of its name in `rules` (CodegenData, Operators) does. A caller owes room in the table, and
 // counts below 65,535. The counters are lent to the thin functions `emit_at`, `take_num`, `take_str` and `take_val`, which change them
-// in their place and are proved by hand; so are `emit`, `new_num`, `new_strreg` and `new_val`, which lend them and pass them on by value, so
-// that whoever calls these has no proof by hand.
+// in their place and are proved by hand; so are `emit_word`, `new_num`, `new_strreg` and `new_val`, which lend them and pass them on by value,
+// so that whoever calls these has no proof by hand.
 ghost use mathlib.Core.Path.{_≡_};
 ghost use Prim.Native.Nat.{ℕ, _+_, _≤_, _<_};
 ghost use lib.ListN.{length, set};

@@ -55,9 +55,9 @@ abbrev unOk : {A : Type 0} → A → Res A → A
 unOk a (refused n) = a
 unOk a (ok b) = b
 
-pub pure-is : {A : Type 0} (v : A) (s : List ℕ) (c : At) (x : A × At) → succeed v s c ≡ ok x → _≡_ {A = A × At} (v, c) x
+pub succeed-is : {A : Type 0} (v : A) (s : List ℕ) (c : At) (x : A × At) → succeed v s c ≡ ok x → _≡_ {A = A × At} (v, c) x
 unfolding succeed
-pure-is v s c x e = ap (unOk x) e
+succeed-is v s c x e = ap (unOk x) e
 
 pub record BitsRead (w : ℕ) (s : List ℕ) (a : At) (x : ℕ × At) : Type 0 where
   pub small : x .0 < 2 ^ w
@@ -93,7 +93,7 @@ bits-reads w s a x e =
 
 pub demand-reads : (b : Bool) (n : ℕ) (s : List ℕ) (a : At) (x : Unit {0} × At) → demand b n s a ≡ ok x → Reads s Tree.emptyTally a (x .1)
 unfolding demand succeed
-demand-reads true n s a x e = subst (λ (z : Unit {0} × At). Reads s Tree.emptyTally a (z .1)) (pure-is tt s a x e) (reads-here s a)
+demand-reads true n s a x e = subst (λ (z : Unit {0} × At). Reads s Tree.emptyTally a (z .1)) (succeed-is tt s a x e) (reads-here s a)
 demand-reads false n s a x e = absurd (refused≢ok n x e)
 
 -- One node more.
@@ -132,7 +132,7 @@ operator-reads {A} w ops s a x e =
   where
     after : (o : Option A) (b : At) → Reads s Tree.emptyTally a b → (let m : Reader A = elim o [ none ↦ refuse 4 | some v ↦ succeed v ] in m s b ≡ ok x) → Reads s Tree.emptyTally a (x .1)
     after none b r q = absurd (refused≢ok 4 x q)
-    after (some v) b r q = subst (λ (z : A × At). Reads s Tree.emptyTally a (z .1)) (pure-is v s b x q) r
+    after (some v) b r q = subst (λ (z : A × At). Reads s Tree.emptyTally a (z .1)) (succeed-is v s b x q) r
 
 pub name-reads : (n : ℕ) (s : List ℕ) (a : At) (x : ℕ × At) → nameOf n s a ≡ ok x → Reads s Tree.emptyTally a (x .1)
 unfolding nameOf Tree.emptyTally both
@@ -140,7 +140,7 @@ name-reads n s a x e =
     let p = passed (bits 8) (λ y. demand (ltb y n) 5 >>= λ z. succeed y) s a x e in
     let q = passed (demand (ltb (p .val) n) 5) (λ z. succeed (p .val)) s (p .at) x (p .follows) in
     let r = reads-seq s Tree.emptyTally Tree.emptyTally a (p .at) (q .at) (bits-reads 8 s a (p .val, p .at) (p .here)) (demand-reads (ltb (p .val) n) 5 s (p .at) (q .val, q .at) (q .here)) in
-    subst (λ (z : ℕ × At). Reads s Tree.emptyTally a (z .1)) (pure-is (p .val) s (q .at) x (q .follows)) (reads-as s (both Tree.emptyTally Tree.emptyTally) Tree.emptyTally a (q .at) refl refl r)
+    subst (λ (z : ℕ × At). Reads s Tree.emptyTally a (z .1)) (succeed-is (p .val) s (q .at) x (q .follows)) (reads-as s (both Tree.emptyTally Tree.emptyTally) Tree.emptyTally a (q .at) refl refl r)
 
 -- ---- many
 
@@ -152,14 +152,14 @@ pub many-reads : {A : Type 0} (k : A → Tally) (n : ℕ) (m : Reader A) (s : Li
     → ((a : At) (x : A × At) → m s a ≡ ok x → Reads s (k (x .0)) a (x .1))
     → (a : At) (x : List A × At) → many n m s a ≡ ok x → Reads s (sum k (x .0)) a (x .1)
 unfolding many sum
-many-reads {A} k zero m s h a x e = subst (λ (z : List A × At). Reads s (sum k (z .0)) a (z .1)) (pure-is [] s a x e) (reads-here s a)
+many-reads {A} k zero m s h a x e = subst (λ (z : List A × At). Reads s (sum k (z .0)) a (z .1)) (succeed-is [] s a x e) (reads-here s a)
 many-reads {A} k (suc n) m s h a x e =
     let p = passed m (λ v. many n m >>= λ vs. succeed (v ∷ vs)) s a x e in
     let q = passed (many n m) (λ vs. succeed (p .val ∷ vs)) s (p .at) x (p .follows) in
     let r = many-reads k n m s h (p .at) (q .val, q .at) (q .here) in
     subst
     (λ (z : List A × At). Reads s (sum k (z .0)) a (z .1))
-    (pure-is (p .val ∷ q .val) s (q .at) x (q .follows))
+    (succeed-is (p .val ∷ q .val) s (q .at) x (q .follows))
     (reads-seq s (k (p .val)) (sum k (q .val)) a (p .at) (q .at) (h a (p .val, p .at) (p .here)) r)
 
 -- characters of 7 bits
@@ -228,7 +228,7 @@ module _ (s : List ℕ) (n : ℕ) (r : Reader Expr) (h : Sound r s) (a : At) (x 
       let j = h (q .at) (w .val, w .at) (w .here) in
       subst
       (ReadExpr under s a)
-      (pure-is (binop (p .val) (q .val) (w .val)) s (w .at) x (w .follows))
+      (succeed-is (binop (p .val) (q .val) (w .val)) s (w .at) x (w .follows))
       (
       record {
         reads = none-left s (both (ofExpr (q .val)) (ofExpr (w .val))) a (p .at) (w .at) (operator-reads 4 binops s a (p .val, p .at) (p .here)) (reads-seq s (ofExpr (q .val)) (ofExpr (w .val)) (p .at) (q .at) (w .at) (i .reads) (j .reads));
@@ -244,7 +244,7 @@ module _ (s : List ℕ) (n : ℕ) (r : Reader Expr) (h : Sound r s) (a : At) (x 
       let i = h (p .at) (q .val, q .at) (q .here) in
       subst
       (ReadExpr under s a)
-      (pure-is (unop (p .val) (q .val)) s (q .at) x (q .follows))
+      (succeed-is (unop (p .val) (q .val)) s (q .at) x (q .follows))
       (record { reads = none-left s (ofExpr (q .val)) a (p .at) (q .at) (operator-reads 4 unops s a (p .val, p .at) (p .here)) (i .reads); short = i .short })
 
   incdec-read : incdecOf n s a ≡ ok x → ReadExpr under s a x
@@ -254,20 +254,20 @@ module _ (s : List ℕ) (n : ℕ) (r : Reader Expr) (h : Sound r s) (a : At) (x 
       let q = passed (nameOf n) (λ y. succeed (Expr.incdec (isOne (p .val)) y)) s (p .at) x (p .follows) in
       subst
       (ReadExpr under s a)
-      (pure-is (Expr.incdec (isOne (p .val)) (q .val)) s (q .at) x (q .follows))
+      (succeed-is (Expr.incdec (isOne (p .val)) (q .val)) s (q .at) x (q .follows))
       (record { reads = none-left s Tree.emptyTally a (p .at) (q .at) (bits-reads 1 s a (p .val, p .at) (p .here)) (name-reads n s (p .at) (q .val, q .at) (q .here)); short = tt })
 
   ident-read : identOf n s a ≡ ok x → ReadExpr under s a x
   unfolding identOf
   ident-read e =
       let q = passed (nameOf n) (λ y. succeed (ident y)) s a x e in
-      subst (ReadExpr under s a) (pure-is (ident (q .val)) s (q .at) x (q .follows)) (record { reads = name-reads n s a (q .val, q .at) (q .here); short = tt })
+      subst (ReadExpr under s a) (succeed-is (ident (q .val)) s (q .at) x (q .follows)) (record { reads = name-reads n s a (q .val, q .at) (q .here); short = tt })
 
   number-read : numberOf s a ≡ ok x → ReadExpr under s a x
   unfolding numberOf
   number-read e =
       let q = passed (bits 64) (λ v. succeed (number (signed v))) s a x e in
-      subst (ReadExpr under s a) (pure-is (number (signed (q .val))) s (q .at) x (q .follows)) (record { reads = bits-reads 64 s a (q .val, q .at) (q .here); short = tt })
+      subst (ReadExpr under s a) (succeed-is (number (signed (q .val))) s (q .at) x (q .follows)) (record { reads = bits-reads 64 s a (q .val, q .at) (q .here); short = tt })
 
   string-read : stringOf s a ≡ ok x → ReadExpr under s a x
   unfolding stringOf
@@ -280,7 +280,7 @@ module _ (s : List ℕ) (n : ℕ) (r : Reader Expr) (h : Sound r s) (a : At) (x 
       let c = sum-chars (q .val) in
       subst
       (ReadExpr under s a)
-      (pure-is (string (q .val)) s (q .at) x (q .follows))
+      (succeed-is (string (q .val)) s (q .at) x (q .follows))
       (
       record {
         reads = none-left s (under (string (q .val))) a (p .at) (q .at) (bits-reads 7 s a (p .val, p .at) (p .here)) (reads-as s (sum oneChar (q .val)) (under (string (q .val))) (p .at) (q .at) (c .1) (c .0) m);

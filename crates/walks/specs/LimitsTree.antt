@@ -15,7 +15,7 @@ use Rattle.rules.specs.Parse.{Reader, At, succeed, refuse, _>>=_, demand, bits,
 use Rattle.rules.specs.Parse.{gotoOf, iteOf, stepOf, assignOf, stmtKinds, expr, stmt, known, name, names, fill, lineBlock, body, file, parse}
 use Rattle.rules.specs.Demand.{All}
 use Rattle.walks.specs.Parsed.{refused≢ok, Passed, passed, demanded, many-length, Parsed, parsed, some-line}
-use Rattle.walks.specs.Limits.{Reads, reads-seq, reads-as, reads-here, pure-is, BitsRead, bits-read, bits-reads, demand-reads, one, begin-reads, operator-reads, name-reads, sum, many-reads, oneChar, char-reads, sum-chars, ShortExpr, ReadExpr, Sound, none-left, expr-read}
+use Rattle.walks.specs.Limits.{Reads, reads-seq, reads-as, reads-here, succeed-is, BitsRead, bits-read, bits-reads, demand-reads, one, begin-reads, operator-reads, name-reads, sum, many-reads, oneChar, char-reads, sum-chars, ShortExpr, ReadExpr, Sound, none-left, expr-read}
 
 abbrev pub ShortBlock : Block → Type 0
 ShortBlock end = Unit {0}
@@ -41,7 +41,7 @@ record ReadBlock (s : List ℕ) (a : At) (x : Block × At) : Type 0 where
 
 block-read : (n : ℕ) (q : Reader (Block → Block)) (s : List ℕ) → SoundStmt q s → (a : At) (x : Block × At) → block n q s a ≡ ok x → ReadBlock s a x
 unfolding block ofBlock
-block-read zero q s h a x e = subst (ReadBlock s a) (pure-is end s a x e) (record { reads = reads-here s a; short = tt })
+block-read zero q s h a x e = subst (ReadBlock s a) (succeed-is end s a x e) (record { reads = reads-here s a; short = tt })
 block-read (suc n) q s h a x e =
     let p = passed q (λ f. block n q >>= λ b. succeed (f b)) s a x e in
     let r = passed (block n q) (λ b. succeed (p .val b)) s (p .at) x (p .follows) in
@@ -49,7 +49,7 @@ block-read (suc n) q s h a x e =
     let j = block-read n q s h (p .at) (r .val, r .at) (r .here) in
     let k = i .counts in
     let w = reads-seq s k (ofBlock (r .val)) a (p .at) (r .at) (i .reads) (j .reads) in
-    subst (ReadBlock s a) (pure-is (p .val (r .val)) s (r .at) x (r .follows)) (built (p .val (r .val)) k (ofBlock (r .val)) (r .at) (i .nodes (r .val)) (i .chars (r .val)) w (i .short (r .val) (j .short)))
+    subst (ReadBlock s a) (succeed-is (p .val (r .val)) s (r .at) x (r .follows)) (built (p .val (r .val)) k (ofBlock (r .val)) (r .at) (i .nodes (r .val)) (i .chars (r .val)) w (i .short (r .val) (j .short)))
   where
     built : (b : Block) (k l : Tally) (c : At) → ofBlock b .nodes ≡ 0 + k .nodes + l .nodes → ofBlock b .characters ≡ k .characters + l .characters → Reads s (both k l) a c → ShortBlock b → ReadBlock s a (b, c)
     built b k l c p q w z = record { reads = as-both b k l c p q w; short = z }
@@ -67,7 +67,7 @@ module _ (s : List ℕ) (n : ℕ) (r : Reader Expr) (h : Sound r s) (q : Reader 
       let i = h a (p .val, p .at) (p .here) in
       subst
       (ReadStmt 1 s a)
-      (pure-is (goto (p .val)) s (p .at) x (p .follows))
+      (succeed-is (goto (p .val)) s (p .at) x (p .follows))
       (record { counts = ofExpr (p .val); reads = i .reads; nodes = λ b. omega arith; chars = λ b. refl; short = λ b z. (i .short, z) })
 
   ite-read : iteOf r q s a ≡ ok x → ReadStmt 1 s a x
@@ -87,7 +87,7 @@ module _ (s : List ℕ) (n : ℕ) (r : Reader Expr) (h : Sound r s) (q : Reader 
       let tu = reads-seq s (ofBlock t) (ofBlock u) (p₁ .at) (p₃ .at) (p₅ .at) (none-left s (ofBlock t) (p₁ .at) (p₂ .at) (p₃ .at) (bits-reads 6 s (p₁ .at) (p₂ .val, p₂ .at) (p₂ .here)) (j .reads)) (none-left s (ofBlock u) (p₃ .at) (p₄ .at) (p₅ .at) (bits-reads 6 s (p₃ .at) (p₄ .val, p₄ .at) (p₄ .here)) (k .reads)) in
       subst
       (ReadStmt 1 s a)
-      (pure-is (ite c t u) s (p₅ .at) x (p₅ .follows))
+      (succeed-is (ite c t u) s (p₅ .at) x (p₅ .follows))
       (
       record {
         counts = both (ofExpr c) (both (ofBlock t) (ofBlock u));
@@ -105,7 +105,7 @@ module _ (s : List ℕ) (n : ℕ) (r : Reader Expr) (h : Sound r s) (q : Reader 
       let w = passed (nameOf n) (λ y. succeed (Block.incdec (isOne (p .val)) y)) s (p .at) x (p .follows) in
       subst
       (ReadStmt 1 s a)
-      (pure-is (Block.incdec (isOne (p .val)) (w .val)) s (w .at) x (w .follows))
+      (succeed-is (Block.incdec (isOne (p .val)) (w .val)) s (w .at) x (w .follows))
       (
       record {
         counts = Tree.emptyTally;
@@ -125,7 +125,7 @@ module _ (s : List ℕ) (n : ℕ) (r : Reader Expr) (h : Sound r s) (q : Reader 
       let i = h (p₂ .at) (p₃ .val, p₃ .at) (p₃ .here) in
       subst
       (ReadStmt 1 s a)
-      (pure-is (assign (p₁ .val) (p₂ .val) (p₃ .val)) s (p₃ .at) x (p₃ .follows))
+      (succeed-is (assign (p₁ .val) (p₂ .val) (p₃ .val)) s (p₃ .at) x (p₃ .follows))
       (
       record {
         counts = ofExpr (p₃ .val);
@@ -176,13 +176,13 @@ sum-lines (b ∷ bs) = ap (both (ofBlock b)) (sum-lines bs)
 
 lines-short : (s : List ℕ) (n l : ℕ) (a : At) (x : List Block × At) → many l (lineBlock n) s a ≡ ok x → All ShortBlock (x .0)
 unfolding many
-lines-short s n zero a x e = subst (λ (z : List Block × At). All ShortBlock (z .0)) (pure-is [] s a x e) tt
+lines-short s n zero a x e = subst (λ (z : List Block × At). All ShortBlock (z .0)) (succeed-is [] s a x e) tt
 lines-short s n (suc l) a x e =
     let p = passed (lineBlock n) (λ v. many l (lineBlock n) >>= λ vs. succeed (v ∷ vs)) s a x e in
     let q = passed (many l (lineBlock n)) (λ vs. succeed (p .val ∷ vs)) s (p .at) x (p .follows) in
     subst
     (λ (z : List Block × At). All ShortBlock (z .0))
-    (pure-is (p .val ∷ q .val) s (q .at) x (q .follows))
+    (succeed-is (p .val ∷ q .val) s (q .at) x (q .follows))
     (line-read s n a (p .val, p .at) (p .here) .short, lines-short s n l (p .at) (q .val, q .at) (q .here))
 
 -- ---- names
@@ -201,7 +201,7 @@ one-name s a x e =
     let m = nothing s (sum oneChar t) (p₂ .at) (p₃ .at) (sum-chars t .1) (many-reads oneChar (suc (p₂ .val)) (bits 7) s (char-reads s) (p₂ .at) (t, p₃ .at) (p₃ .here)) in
     subst
     (λ (z : Name × At). Reads s Tree.emptyTally a (z .1))
-    (pure-is (record { isGlobal = isOne (p₁ .val); chars = t }) s (p₃ .at) x (p₃ .follows))
+    (succeed-is (record { isGlobal = isOne (p₁ .val); chars = t }) s (p₃ .at) x (p₃ .follows))
     (none-left s Tree.emptyTally a (p₁ .at) (p₃ .at) (bits-reads 1 s a (p₁ .val, p₁ .at) (p₁ .here)) (none-left s Tree.emptyTally (p₁ .at) (p₂ .at) (p₃ .at) (bits-reads 6 s (p₁ .at) (p₂ .val, p₂ .at) (p₂ .here)) m))
 
 record ReadNames (n : ℕ) (before : List Name) (s : List ℕ) (a : At) (x : List Name × At) : Type 0 where
@@ -210,7 +210,7 @@ record ReadNames (n : ℕ) (before : List Name) (s : List ℕ) (a : At) (x : Lis
 
 names-read : (n : ℕ) (before : List Name) (s : List ℕ) (a : At) (x : List Name × At) → names n before s a ≡ ok x → ReadNames n before s a x
 unfolding names
-names-read zero before s a x e = subst (ReadNames zero before s a) (pure-is before s a x e) (record { reads = reads-here s a; long = omega arith })
+names-read zero before s a x e = subst (ReadNames zero before s a) (succeed-is before s a x e) (record { reads = reads-here s a; long = omega arith })
 names-read (suc n) before s a x e =
     let p = passed name (λ y. demand (not (known y before)) 6 >>= λ z. names n (before ++ (y ∷ []))) s a x e in
     let y = p .val in
@@ -248,7 +248,7 @@ body-read l n s a x e =
     let j = many-reads ofBlock l (lineBlock n) s (λ b y h. line-read s n b y h .reads) (p .at) (q .val, q .at) (q .here) in
     subst
     (λ (z : Tree × At). ReadBody l n s a (z .0))
-    (pure-is (record { names = p .val; lines = q .val }) s (w .at) x (w .follows))
+    (succeed-is (record { names = p .val; lines = q .val }) s (w .at) x (w .follows))
     (
     record {
       lines = many-length l (lineBlock n) s (p .at) (q .val, q .at) (q .here);
