@@ -1,13 +1,12 @@
 -- Lowering, first factor: every statement gets its own instructions. Registers count up as lowering meets them, unlinked statements included.
-use mathlib.Core.Bool.{Bool, true, false}
 use mathlib.Core.List.{List, [], _∷_}
-use mathlib.Core.Option.{Option, none, some}
-use Prim.Native.Nat.{ℕ, zero, suc}
+use mathlib.Core.Option.{none}
+use Prim.Native.Nat.{ℕ}
 use lib.ListN.{length, replicate}
 use Rattle.rules.specs.Tree.{Tree, Assignop, Expr, Block}
 use Rattle.rules.specs.Tree.{Plain, AddTo, SubTo, MulTo, DivTo, ModTo, PowTo}
 use Rattle.rules.specs.Tree.{binop, unop, ident, number, string, assign, end}
-use Rattle.rules.specs.Instr.{Instruction, ins₂}
+use Rattle.rules.specs.Instr.{ins₂}
 use Rattle.rules.specs.Opcode as Op
 use Rattle.rules.specs.Script.{Stmts, nil, plain, Script}
 use Rattle.rules.specs.CodegenData.{CodegenData, Lower, pure, _>>=_, emit, newNum, newStr, scoped}

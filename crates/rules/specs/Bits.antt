@@ -1,6 +1,6 @@
 -- Bits of a list of bytes, most significant first, and fields of them.
 use mathlib.Core.Bool.{Bool, true, false}
-use mathlib.Core.List.{List, [], _∷_}
+use mathlib.Core.List.{List}
 use Prim.Native.Nat.{ℕ, zero, suc, _+_, _*_, _-_, _/_, _%_, _^_}
 use lib.Dec.{leb, eqb}
 use lib.ListN.{length, getD}

@@ -1,7 +1,7 @@
 -- Cleaning, `remove_unfixed_sections`: unfixed sections are removed, and targets follow.
-use mathlib.Core.Bool.{Bool, true, false, cond}
+use mathlib.Core.Bool.{cond}
 use mathlib.Core.List.{List, [], _∷_, map}
-use Prim.Native.Nat.{ℕ, zero, suc, pred}
+use Prim.Native.Nat.{ℕ, suc, pred}
 use lib.ListN.{length, take}
 use Rattle.rules.specs.Instr.{Instruction, aimed}
 use Rattle.rules.specs.Machine.{SectionOrLine, unfixed, section, line, isFixed, SectionCode, Machine, withSections}

@@ -1,8 +1,8 @@
 -- The state of lowering, `CodegenData` of codegen.rs, and the changes of it. Sections are made later (Assemble), so here stand the
 -- instructions of the statement at hand, and the registers so far.
 use mathlib.Core.List.{List, [], _∷_, _++_}
-use mathlib.Core.Option.{Option, none, some}
-use Prim.Native.Nat.{ℕ, zero, suc, _+_}
+use mathlib.Core.Option.{Option, some}
+use Prim.Native.Nat.{ℕ, suc, _+_}
 use lib.IntN.{ℤ}
 use lib.ListN.{length, set}
 use Rattle.rules.specs.Instr.{Instruction}

@@ -1,10 +1,10 @@
 -- Combining, `CombineSections`: the lowest S1 whose successor S2 may be joined to it takes S2 in, and so on until there is none.
-use mathlib.Core.Bool.{Bool, true, false, cond, not, _&&_}
+use mathlib.Core.Bool.{Bool, cond, not, _&&_}
 use mathlib.Core.Option.{Option, none, some}
 use mathlib.Core.List.{List, [], _∷_, _++_, map}
-use Prim.Native.Nat.{ℕ, zero, suc, pred, _+_}
+use Prim.Native.Nat.{ℕ, zero, suc, _+_}
 use lib.ListN.{length, getD, set}
-use lib.Dec.{ltb, eqb}
+use lib.Dec.{eqb}
 use Rattle.rules.specs.Instr.{Instruction, isJump, fall}
 use Rattle.rules.specs.Machine.{SectionOrLine, unfixed, section, line, SectionCode, absent, Machine, withSections}
 use Rattle.rules.specs.Clean.{ren}

@@ -1,17 +1,17 @@
 -- What the claim of demand 3 tells apart: walks that differ, registers outside their tables, and a list cut behind its goto.
 use mathlib.Core.Path.{_≡_, refl, sym, ap, _∙_}
-use mathlib.Core.Logic.{_⊎_, inl, inr}
+use mathlib.Core.Logic.{inl, inr}
 use mathlib.Core.List.{List, [], _∷_, map}
-use Prim.Native.Nat.{ℕ, zero, suc, _<_, _≤_}
+use Prim.Native.Nat.{ℕ, suc}
 use native.Mathlib.Omega.{arith}
-use lib.ListN.{length, getD}
+use lib.ListN.{length}
 use Rattle.rules.specs.Opcode as Op
 use Rattle.rules.specs.Instr.{Instruction, ins₁, ins₂, kinds}
 use Rattle.rules.specs.Machine.{line}
 use Rattle.rules.specs.Tables.{Counts}
-use Rattle.rules.specs.Script.{Stmts, nil, plain, goto, ite}
-use Rattle.rules.specs.Walk.{Ask, atJump, atGoto, Halt, ask, lost, End, more, over, Trace}
-use Rattle.rules.specs.Demand.{Walk, Meets, Fewer, SameFirst, Stops, SameWalk, RegistersBelow, GotoBelow, prune}
+use Rattle.rules.specs.Script.{nil, plain, goto, ite}
+use Rattle.rules.specs.Walk.{atJump, atGoto, ask, lost, End, more, over, Trace}
+use Rattle.rules.specs.Demand.{Walk, SameFirst, SameWalk, RegistersBelow, GotoBelow, prune}
 use Rattle.rules.specs.WalkExamples.{inc, threeLines}
 
 -- ---- walks

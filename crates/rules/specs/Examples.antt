@@ -1,6 +1,6 @@
 -- The tried inputs of document 01, computed: a table of files with what is expected of each, and one theorem for all its rows.
 use mathlib.Core.Path.{_≡_, refl}
-use mathlib.Core.Bool.{Bool, true, false}
+use mathlib.Core.Bool.{true}
 use mathlib.Core.List.{List, [], _∷_, map}
 use Prim.Native.Nat.{ℕ, zero, suc, _/_, _%_, _^_}
 use lib.IntN.{ℤ, pos}

@@ -1,11 +1,11 @@
 -- What the program finlist prints: rows of ASCII codes, each with a line feed.
 use mathlib.Core.Bool.{Bool, true, false, _&&_}
 use mathlib.Core.List.{List, [], _∷_, _++_}
-use Prim.Native.Nat.{ℕ, zero, suc, _+_, _*_, _/_, _%_}
+use Prim.Native.Nat.{ℕ, zero, suc, _+_, _/_, _%_}
 use lib.Dec.{leb, ltb, eqb}
 use lib.IntN.{ℤ, pos, negsuc}
-use lib.ListN.{length, take, drop, getD}
-use Rattle.rules.specs.Bits.{Res, refused, ok}
+use lib.ListN.{length, take, drop}
+use Rattle.rules.specs.Bits.{refused, ok}
 use Rattle.rules.specs.Parse.{parse}
 use Rattle.rules.specs.Instr.{Instruction}
 use Rattle.rules.specs.Word.{Span}

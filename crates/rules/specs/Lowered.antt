@@ -8,7 +8,6 @@ use Rattle.rules.specs.Tree.{Name, Tree}
 use Rattle.rules.specs.Word.{Span}
 use Rattle.rules.specs.Constants.{mark}
 use Rattle.rules.specs.Machine.{Machine}
-use Rattle.rules.specs.CodegenData.{CodegenData}
 use Rattle.rules.specs.Annotate.{annotate}
 use Rattle.rules.specs.Assemble.{sectionsOf}
 use Rattle.rules.specs.Replace.{replaced}

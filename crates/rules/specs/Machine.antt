@@ -1,6 +1,6 @@
 -- A machine: sections with their instructions and successors, registers, texts and names. Its words are in Tables.
 use mathlib.Core.Bool.{Bool, true, false}
-use mathlib.Core.List.{List, [], _∷_, _++_}
+use mathlib.Core.List.{List, []}
 use Prim.Native.Nat.{ℕ}
 use lib.IntN.{ℤ}
 use Rattle.rules.specs.Instr.{Instruction}

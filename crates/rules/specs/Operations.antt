@@ -1,15 +1,15 @@
 -- The operations: the answer of each, and every lent word afterwards. A refused call leaves all as it was.
-use mathlib.Core.Bool.{Bool, true, false, not, _&&_, _||_}
+use mathlib.Core.Bool.{Bool, true, false, _&&_, _||_}
 use mathlib.Core.List.{List, [], _∷_, _++_}
 use mathlib.Core.Option.{Option, none, some}
-use Prim.Native.Nat.{ℕ, zero, suc, _+_, _*_, _-_, _^_, min, max}
+use Prim.Native.Nat.{ℕ, suc, _+_, _*_, _-_, _^_, min, max}
 use lib.Dec.{leb, ltb, eqb}
-use lib.IntN.{ℤ, pos}
+use lib.IntN.{pos}
 use lib.ListN.{length, take, drop, getD, getElem?, replicate}
 use Rattle.rules.specs.Constants.{mostCount, sectionsAStatement, instrsANode, numbersANode, spotBits}
 use Rattle.rules.specs.Refusal as Refusal
 use Rattle.rules.specs.Bits.{Res, refused, ok}
-use Rattle.rules.specs.Tree.{Tree, Tally, ofLines}
+use Rattle.rules.specs.Tree.{Tree, ofLines}
 use Rattle.rules.specs.Parse.{parse}
 use Rattle.rules.specs.Instr.{Instruction, isJump}
 use Rattle.rules.specs.Word.{Span, wordSpan, spanSpare}

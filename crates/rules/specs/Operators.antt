@@ -1,16 +1,16 @@
 -- The small steps of codegen.rs under their names there: what is emitted for an operator on value registers.
 use mathlib.Core.Bool.{Bool, true, false}
-use mathlib.Core.List.{List, [], _∷_, _++_}
-use mathlib.Core.Option.{Option, none, some}
-use Prim.Native.Nat.{ℕ, zero, suc, _+_}
-use lib.IntN.{ℤ, pos}
+use mathlib.Core.List.{[]}
+use mathlib.Core.Option.{none, some}
+use Prim.Native.Nat.{ℕ}
+use lib.IntN.{pos}
 use lib.ListN.{getD}
 use Rattle.rules.specs.Tree.{Binop, Unop}
 use Rattle.rules.specs.Tree.{And, Or, Add, Sub, Mul, Div, Mod, Pow, Eq, Ne, Le, Lt, Ge, Gt}
 use Rattle.rules.specs.Tree.{Neg, Not, Abs, Sqrt, Fact, Sin, Cos, Tan, Asin, Acos, Atan}
 use Rattle.rules.specs.Instr.{Instruction, ins₁, ins₂, ins₃, canRuntimeErr}
 use Rattle.rules.specs.Opcode as Op
-use Rattle.rules.specs.CodegenData.{CodegenData, Lower, pure, _>>=_, _>>_, emit, newNum, newVal, bindName}
+use Rattle.rules.specs.CodegenData.{Lower, pure, _>>=_, _>>_, emit, newNum, newVal, bindName}
 
 -- an error jump; its target is left aside until its statement stands in a line
 abbrev pub errorJump : Instruction

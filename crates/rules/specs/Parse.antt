@@ -1,7 +1,7 @@
 -- The tree form: from bytes to a tree, or the refusal that comes first.
 use mathlib.Core.Bool.{Bool, true, false, not, _&&_, Bool·beq}
 use mathlib.Core.List.{List, [], _∷_, _++_}
-use mathlib.Core.Option.{Option, none, some}
+use mathlib.Core.Option.{none, some}
 use Prim.Native.Nat.{ℕ, zero, suc, _+_, _*_, _-_, _^_}
 use lib.Dec.{leb, ltb, eqb}
 use lib.IntN.{ℤ, pos, negsuc}

@@ -1,6 +1,6 @@
 -- The reading of a script in order under a list of outcomes.
 use mathlib.Core.Bool.{Bool, true, false}
-use mathlib.Core.List.{List, [], _∷_, _++_}
+use mathlib.Core.List.{List, [], _∷_}
 use Prim.Native.Nat.{ℕ, zero, suc, _%_}
 use lib.ListN.{length, getD}
 use Rattle.rules.specs.Instr.{Instruction, isJump, shown}

@@ -5,7 +5,6 @@ use Prim.Native.Nat.{ℕ}
 use lib.ListN.{length}
 use Rattle.rules.specs.Tree.{Tree}
 use Rattle.rules.specs.Instr.{Instruction}
-use Rattle.rules.specs.CodegenData.{CodegenData}
 use Rattle.rules.specs.Annotate.{annotate}
 use Rattle.rules.specs.Lowered.{spans, texts}
 use Rattle.rules.specs.Replace.{Regs, rules, lookup, replaceCode}

@@ -1,11 +1,11 @@
 -- Machine words: which tables of words hold a machine (the rules whose breach is 12), the machine that they hold, and the words of a machine.
 use mathlib.Core.Bool.{Bool, true, false, not, _&&_, _||_}
 use mathlib.Core.List.{List, [], _∷_, _++_, map}
-use mathlib.Core.Option.{Option, none, some}
-use Prim.Native.Nat.{ℕ, zero, suc, _+_, _*_, _%_, _^_}
+use mathlib.Core.Option.{none, some}
+use Prim.Native.Nat.{ℕ, suc, _+_}
 use lib.Dec.{leb, ltb, eqb}
-use lib.IntN.{ℤ, pos}
-use lib.ListN.{length, take, drop, replicate}
+use lib.IntN.{ℤ}
+use lib.ListN.{length, take, drop}
 use Rattle.rules.specs.Constants.{mark, mostLines, mostCount}
 use Rattle.rules.specs.Refusal as Refusal
 use Rattle.rules.specs.Bits.{Res, refused, ok, isOne}

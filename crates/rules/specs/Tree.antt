@@ -1,7 +1,7 @@
 -- The tree of a script, as parser.rs declares it, and what size counts of it.
-use mathlib.Core.Bool.{Bool, true, false}
+use mathlib.Core.Bool.{Bool}
 use mathlib.Core.List.{List, [], _∷_}
-use Prim.Native.Nat.{ℕ, zero, suc, _+_}
+use Prim.Native.Nat.{ℕ, suc, _+_}
 use lib.IntN.{ℤ}
 use lib.ListN.{length}
 

@@ -1,13 +1,12 @@
 -- Both walks, computed on files and on scripts made by hand, and the order of replacement.
 use mathlib.Core.Path.{_≡_, refl}
-use mathlib.Core.Bool.{Bool, true, false}
 use mathlib.Core.List.{List, [], _∷_, map}
 use Prim.Native.Nat.{ℕ}
 use Rattle.rules.specs.Bits.{Res, refused, ok}
 use Rattle.rules.specs.Parse.{parse}
 use Rattle.rules.specs.Opcode as Op
 use Rattle.rules.specs.Instr.{Instruction, ins₁, ins₂}
-use Rattle.rules.specs.Script.{Stmts, nil, plain, goto, ite, Script}
+use Rattle.rules.specs.Script.{nil, plain, goto, ite, Script}
 use Rattle.rules.specs.Assemble.{sectionsOf}
 use Rattle.rules.specs.Replace.{rules, lookup, replaceSections}
 use Rattle.rules.specs.Clean.{cleanSections}

@@ -1,19 +1,18 @@
 -- A machine that is handed in: where combine does not refuse it, every walk is kept and no pair is left.
-use mathlib.Core.Path.{_≡_, refl, sym, ap, _∙_, subst}
+use mathlib.Core.Path.{_≡_, refl, sym, ap, _∙_}
 use mathlib.Core.Bool.{Bool, true, false, _&&_}
 use mathlib.Core.Option.{none}
 use mathlib.Core.List.{List, [], _∷_}
 use Prim.Native.Nat.{ℕ, zero, suc, _+_, _<_}
 use native.Mathlib.Omega.{arith}
-use lib.Dec.{leb, ltb, eqb}
+use lib.Dec.{eqb}
 use lib.ListN.{take, drop, getD}
 use borrow.Author.Tests.{ltb-true, lt-ltb}
 use Rattle.rules.specs.Bits.{Res, refused, ok, isOne}
-use Rattle.rules.specs.Constants.{mostLines, mostCount}
 use Rattle.rules.specs.Refusal as Refusal
 use Rattle.rules.specs.Word.{Run, wordRun, runSpare}
 use Rattle.rules.specs.Machine.{SectionCode, absent, Machine}
-use Rattle.rules.specs.Tables.{Tables, Counts, allb, fits, countFits, countsFit, wordsFit, insFits, spanFits, nameFits, startFits, runsFit, successFits, successOf, readSections, decode, countsOf}
+use Rattle.rules.specs.Tables.{Tables, Counts, allb, fits, countsFit, wordsFit, insFits, spanFits, nameFits, startFits, runsFit, successFits, successOf, readSections, decode, countsOf}
 use Rattle.rules.specs.Combine.{pair, combineSections, combined}
 use Rattle.rules.specs.Operations.{write, change, fixedHere, allAhead, combineIn, combine}
 use Rattle.rules.specs.Walk.{walk, walkSections}
@@ -60,14 +59,13 @@ starts u i k (w ∷ ws) is e t h = go (sectionFits u i k w) refl e t h (λ q. st
     go true p q zero l ih = started u i (wordRun w) (both (plainFits u k w) (startFits u i (wordRun w)) p .1) (omega arith)
     go true p q (suc n) l ih = ih q n (omega arith)
 
--- L is at least 1
+-- L is at least 1: the first of all tests of counts
+first : (a b : Bool) → a && b ≡ true → a ≡ true
+first a b e = both a b e .0
+
 some-line : (t : Tables) (u : Counts) → countsFit t u ≡ true → 0 < u .lines
 unfolding countsFit
-some-line t u e = ltb-true 0 (u .lines) (go (ltb 0 (u .lines)) e)
-  where
-    go : (b : Bool) → b && leb (u .lines) mostLines && leb (u .lines) (u .sections) && leb (u .values) mostCount && countFits (u .sections) (t .sections) && countFits (u .instrs) (t .instrs) && countFits (u .numbers) (t .numbers) && countFits (u .strings) (t .strings) && countFits (u .pool) (t .pool) && countFits (u .names) (t .names) ≡ true → b ≡ true
-    go true q = refl
-    go false q = absurd (true≢false false q refl)
+some-line t u e = ltb-true 0 (u .lines) (first _ _ (first _ _ (first _ _ (first _ _ (first _ _ (first _ _ (first _ _ (first _ _ (first _ _ e)))))))))
 
 fixed : (m : List SectionCode) → allb fixedHere m ≡ true → Fixed m
 unfolding allb fixedHere
