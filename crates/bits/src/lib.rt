@@ -15,14 +15,14 @@ use limits::{BYTE_BITS, CHAR_BITS, MOST_NODES};
 use refusal::{ENDS_IN_FIELD, TOO_DEEP, TOO_MANY_NODES};
 
 // Where a field ends, or that the file ends before.
-#[derive(Drop)]
+#[derive(Clone, Copy)]
 enum End {
     At(usize),
     Past,
 }
 
 // A value with the next bit position, or the end of the file inside the field.
-#[derive(Drop)]
+#[derive(Clone, Copy)]
 pub enum Field {
     Value(u64, usize),
     Short,
@@ -30,7 +30,7 @@ pub enum Field {
 
 // Where the reader stands, and what it has counted: nodes, the statements among them, the sections that lowering makes of those,
 // strings and their characters.
-#[derive(Drop)]
+#[derive(Clone, Copy)]
 pub struct Cursor {
     pub pos: usize,
     pub nodes: usize,
@@ -41,7 +41,7 @@ pub struct Cursor {
 }
 
 // What a step of the reader gives: a number (0 where it has none to give) and the next cursor, or the number that refuses the file.
-#[derive(Drop)]
+#[derive(Clone, Copy)]
 pub enum Step {
     Next(u64, Cursor),
     Refused(u64),

@@ -9,7 +9,7 @@ use tables::word::is_fixed;
 use words::section::SectionWord;
 
 // How many sections and instructions are kept.
-#[derive(Drop)]
+#[derive(Clone, Copy)]
 pub struct Room {
     pub sections: usize,
     pub instructions: usize,

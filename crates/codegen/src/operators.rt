@@ -18,7 +18,7 @@ use crate::state::{Counters, GotNum, GotVal, add_jmperr, emit, get_variable, new
 use words::instr::{Instruction, NumReg, StrReg, ValReg};
 
 // Operators, in the order of their declaration.
-#[derive(Drop)]
+#[derive(Clone, Copy)]
 pub enum Binop {
     And,
     Or,
@@ -36,7 +36,7 @@ pub enum Binop {
     Gt,
 }
 
-#[derive(Drop)]
+#[derive(Clone, Copy)]
 pub enum Unop {
     Neg,
     Not,

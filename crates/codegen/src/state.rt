@@ -16,7 +16,7 @@ use words::MARK;
 use words::instr::{Instruction, NumReg, Section, StrReg, ValReg};
 
 // Where the next instruction goes; how many registers there are, and characters in the pool; the line that errors go to.
-#[derive(Drop)]
+#[derive(Clone, Copy)]
 pub struct Counters {
     pub at: usize,
     pub numbers: u16,
@@ -27,19 +27,19 @@ pub struct Counters {
 }
 
 // A register, and the counters after the step that gave it.
-#[derive(Drop)]
+#[derive(Clone, Copy)]
 pub struct GotNum {
     pub reg: NumReg,
     pub next: Counters,
 }
 
-#[derive(Drop)]
+#[derive(Clone, Copy)]
 pub struct GotStr {
     pub reg: StrReg,
     pub next: Counters,
 }
 
-#[derive(Drop)]
+#[derive(Clone, Copy)]
 pub struct GotVal {
     pub reg: ValReg,
     pub next: Counters,

@@ -18,7 +18,7 @@ use words::instr::Section;
 use words::section::SectionOrLine;
 
 // Both cursors behind a line, the counters, and the number behind its sections.
-#[derive(Drop)]
+#[derive(Clone, Copy)]
 pub struct LineEnd {
     pub head: usize,
     pub next: Counters,

@@ -4,7 +4,7 @@ ghost use Rattle.replace.specs.Pass.{Adds, AddsAll};
 
 use words::instr::{Instruction, Replaced};
 
-#[derive(Drop)]
+#[derive(Clone, Copy)]
 pub struct Added {
     pub numbers: usize,
     pub strings: usize,

@@ -8,7 +8,7 @@ use words::number::Number;
 use words::text::StringWord;
 
 // How many instructions, numbers and strings are done.
-#[derive(Drop)]
+#[derive(Clone, Copy)]
 pub struct At {
     pub instructions: usize,
     pub numbers: usize,

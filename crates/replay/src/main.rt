@@ -11,7 +11,7 @@ use tables::answer::Answer;
 use tree::{SizeAnswer, Sizes};
 
 // Where a row of numbers is read next, or that one was not as expected.
-#[derive(Drop)]
+#[derive(Clone, Copy)]
 enum Row {
     At(usize),
     Differs,
@@ -175,7 +175,7 @@ fn row_of(text: &[u8], k: usize) -> usize
 }
 
 // Of the sizes, lowered machines and finished ones of some lines, how many agree.
-#[derive(Drop)]
+#[derive(Clone, Copy)]
 struct Agree {
     sizes: u64,
     lowered: u64,

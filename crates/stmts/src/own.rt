@@ -21,7 +21,7 @@ use exprs::codegen_from_expr;
 use words::instr::{Instruction, ValReg};
 
 // The operator of an assignment, in the order of the file's numbers.
-#[derive(Drop)]
+#[derive(Clone, Copy)]
 pub enum Assignop {
     Plain,
     AddTo,

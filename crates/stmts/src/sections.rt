@@ -32,7 +32,7 @@ use words::instr::{Instruction, NumReg, Section};
 use words::section::{SectionOrLine, SectionWord};
 
 // Where a section's word goes, whether it is a line start, and whether it is linked to the section that follows.
-#[derive(Drop)]
+#[derive(Clone, Copy)]
 pub struct Place {
     pub slot: Section,
     pub start: bool,
@@ -41,7 +41,7 @@ pub struct Place {
 }
 
 // A list's place among the sections: whether it is linked, the number of its first section, the section that follows it.
-#[derive(Drop)]
+#[derive(Clone, Copy)]
 pub struct Link {
     pub linked: bool,
     pub number: Section,

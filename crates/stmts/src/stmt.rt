@@ -21,7 +21,7 @@ use words::instr::Section;
 use words::section::SectionOrLine;
 
 // The counters behind a list, the node behind it, and the number behind its sections.
-#[derive(Drop)]
+#[derive(Clone, Copy)]
 pub struct Ended {
     pub next: Counters,
     pub node: usize,

@@ -2,7 +2,7 @@
 use crate::counts::Counts;
 
 // The counts of the machine that is left, or the number of a refusal.
-#[derive(Drop)]
+#[derive(Clone, Copy)]
 pub enum Answer {
     Done(Counts),
     Refused(u64),

@@ -7,7 +7,7 @@ ghost use Rattle.tables.specs.Lent.{countsTold, tables};
 use bits::limits::MOST_LINES;
 
 // Lines, how much of each lent table is in use, and the value registers.
-#[derive(Drop)]
+#[derive(Clone, Copy)]
 pub struct Counts {
     pub lines: usize,
     pub sections: usize,

@@ -8,7 +8,7 @@ use words::instr::StrReg;
 use words::text::StringWord;
 
 // Where a text stands in the pool.
-#[derive(Drop)]
+#[derive(Clone, Copy)]
 pub struct Place {
     pub start: usize,
     pub length: usize,

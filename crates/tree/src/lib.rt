@@ -28,7 +28,7 @@ pub const SMALL_BYTES: usize = 64;
 pub const SMALL_NODES: usize = 4 * SMALL_BYTES;
 
 // What is counted of a tree.
-#[derive(Drop)]
+#[derive(Clone, Copy)]
 pub struct Sizes {
     pub lines: u64,
     pub names: u64,
@@ -39,7 +39,7 @@ pub struct Sizes {
 }
 
 // The sizes, or the number that refuses the file.
-#[derive(Drop)]
+#[derive(Clone, Copy)]
 pub enum SizeAnswer {
     Sized(Sizes),
     Refused(u64),

@@ -16,19 +16,19 @@ use Flow::{Compared, FromTo, Itself, Nothing, Tested, Two};
 use Kind::{Num, Place, Str, Unused, Val};
 
 // A number register.
-#[derive(Drop)]
+#[derive(Clone, Copy)]
 pub struct NumReg(pub u16);
 
 // A string register.
-#[derive(Drop)]
+#[derive(Clone, Copy)]
 pub struct StrReg(pub u16);
 
 // A value register.
-#[derive(Drop)]
+#[derive(Clone, Copy)]
 pub struct ValReg(pub u16);
 
 // A register of any kind.
-#[derive(Drop)]
+#[derive(Clone, Copy)]
 pub enum AnyReg {
     Num(NumReg),
     Str(StrReg),
@@ -36,11 +36,11 @@ pub enum AnyReg {
 }
 
 // A section's number.
-#[derive(Drop)]
+#[derive(Clone, Copy)]
 pub struct Section(pub u16);
 
 // What a field holds: nothing, a register, or the section of a jump.
-#[derive(Drop)]
+#[derive(Clone, Copy)]
 pub enum Kind {
     Unused,
     Num,
@@ -51,7 +51,7 @@ pub enum Kind {
 
 // What is read and modified: nothing; the second is read; the first is read and modified; the first is read, the second modified;
 // both are read, the first modified; both are read, the third modified.
-#[derive(Drop)]
+#[derive(Clone, Copy)]
 pub enum Flow {
     Nothing,
     Tested,
@@ -62,14 +62,14 @@ pub enum Flow {
 }
 
 // The fields of an opcode, or no opcode has the number.
-#[derive(Drop)]
+#[derive(Clone, Copy)]
 pub enum Fields {
     Are(Kind, Kind, Kind, Flow),
     Refused,
 }
 
 // The registers that are read, in order: the first `count` of the two.
-#[derive(Drop)]
+#[derive(Clone, Copy)]
 pub struct Reads {
     pub count: u64,
     pub first: AnyReg,
@@ -77,21 +77,21 @@ pub struct Reads {
 }
 
 // The register that is modified.
-#[derive(Drop)]
+#[derive(Clone, Copy)]
 pub enum Modified {
     Reg(AnyReg),
     Nothing,
 }
 
 // The section that is jumped to.
-#[derive(Drop)]
+#[derive(Clone, Copy)]
 pub enum Target {
     At(Section),
     Nowhere,
 }
 
 // An instruction after the removal of a section, and whether it jumped there.
-#[derive(Drop)]
+#[derive(Clone, Copy)]
 pub struct Checked {
     pub jumped: bool,
     pub instr: Instruction,
@@ -99,7 +99,7 @@ pub struct Checked {
 
 // What becomes of an opcode whose first two fields are one register: it stays, it goes, another opcode takes the register, a copy of
 // an added number into the register or into the result, a copy of an added empty string into the register.
-#[derive(Drop)]
+#[derive(Clone, Copy)]
 pub enum DupRule {
     Stays,
     Goes,
@@ -110,7 +110,7 @@ pub enum DupRule {
 }
 
 // What becomes of an instruction: it stays, it goes, another takes its place, a copy of an added number, a copy of an added empty string.
-#[derive(Drop)]
+#[derive(Clone, Copy)]
 pub enum Replaced {
     Stays,
     Goes,
@@ -218,7 +218,7 @@ impl Reads {
 }
 
 // An instruction's word: opcode (6 bits), three fields (16 each), 10 zero bits. Unused fields are 0.
-#[derive(Drop)]
+#[derive(Clone, Copy)]
 pub struct Instruction(pub u64);
 
 // The opcodes, in yogi's order.

@@ -1,5 +1,5 @@
 // Numbers, as in yogi's number.rs: thousandths.
-#[derive(Drop)]
+#[derive(Clone, Copy)]
 pub struct Number(pub i64);
 
 impl Number {

@@ -11,7 +11,7 @@ use crate::MARK;
 use crate::instr::{NumReg, Section};
 
 // A successor: not fixed yet, a section, or the line that a number register says. Section 65,535 is no section: its word is that of Unfixed.
-#[derive(Drop)]
+#[derive(Clone, Copy)]
 pub enum SectionOrLine {
     Unfixed,
     Section(Section),
@@ -50,7 +50,7 @@ fn flag(b: bool) -> u64
 }
 
 // A section's word: line start (1 bit), kind (1: 0 section, 1 line), target (16), first instruction (16), count (16), 14 zero bits.
-#[derive(Drop)]
+#[derive(Clone, Copy)]
 pub struct SectionWord(pub u64);
 
 impl SectionWord {

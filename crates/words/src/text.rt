@@ -6,7 +6,7 @@ ghost use Rattle.rules.specs.Word.{spanWord, wordSpan, spanSpare};
 ghost use Rattle.words.specs.Runs as Runs;
 
 // A string's word: start in the text pool (16 bits), length (7), 9 zero bits.
-#[derive(Drop)]
+#[derive(Clone, Copy)]
 pub struct StringWord(pub u32);
 
 impl StringWord {
