@@ -1,36 +1,18 @@
 -- Replacement: what becomes of an instruction by the rule of its opcode. Assumes nothing.
-use mathlib.Core.Path.{◌≡◌, refl, sym, ap, ◌∙◌}
+use mathlib.Core.Path.{◌≡◌, refl}
 use mathlib.Core.Bool.{Bool, true, false}
 use Prim.Native.Nat.{ℕ, ◌<◌}
 use native.Mathlib.Omega.{arith}
 use lib.Dec.{eqb}
 use lib.Pow.{pow_pos}
-use borrow.Author.Tests.{eq-eqb, ne_eqb}
-use Rattle.rules.specs.Instr.{Instruction, ins₁, ins₃}
-use Rattle.rules.specs.Word.{insWord}
-use Rattle.rules.specs.Replace.{Rule, stays, goes, turns, number, result, blank, rules, lookup, ruleFor, ruleOf, Regs, replaceBy, replaceIns}
+use Rattle.rules.specs.Instr.{Instruction, ins₁}
+use Rattle.rules.specs.Replace.{Rule, stays, goes, turns, number, result, blank, ruleFor, ruleOf, Regs, replaceBy, replaceIns}
 use Rattle.laws.specs.Table.{turns-lt}
 use Rattle.laws.specs.Words.{InsSmall, ins-back}
-use Rattle.words.specs.Told.{ruleTold, replacedOf, replacedBy}
-use Rattle.words.specs.declared.instr.Instruction as I
-use Rattle.words.specs.declared.instr.DupRule.{DupRule}
-use Rattle.words.specs.declared.instr.DupRule.TheVariants.{Turns as TurnsTo}
-use Rattle.words.specs.declared.instr.Replaced.TheVariants.{Stays, Turns}
+use Rattle.words.specs.Told.{replacedOf, replacedBy}
 
--- two registers
-pub differ : (i : Instruction) (a b : ℕ) → a ≡ i.fst → b ≡ i.snd → (a ≡ b → ⊥) → Stays ≡ replacedOf (ruleOf i) i
-differ i a b p q h = simp (ne_eqb i.fst i.snd (λ e. h (p ∙ e ∙ sym q)))
-
--- one register
-module _ (i : Instruction) (a b o : ℕ) (p : a ≡ i.fst) (q : b ≡ i.snd) (h : a ≡ b) (o_is : o ≡ i.op) (d : DupRule) (told : ruleTold d ≡ lookup o rules) where
-  rule-is : ruleOf i ≡ ruleTold d
-  rule-is = simp (eq-eqb i.fst i.snd (sym p ∙ h ∙ q), told, o_is)
-
-  pub by-rule : (e : DupRule) → d ≡ e → replacedOf (ruleTold e) i ≡ replacedOf (ruleOf i) i
-  by-rule e d-is = rw (rule-is, d-is)
-
-  pub turned : (t : ℕ) → d ≡ TurnsTo t → (w : I.Instruction) → w.0 ≡ insWord (ins₃ t a 0 0) → Turns w ≡ replacedOf (ruleOf i) i
-  turned t d-is w e = ap (λ x. Turns (record { 0 = x })) (rw p at e) ∙ by-rule (TurnsTo t) d-is
+-- an opcode that a rule turns to has 6 bits
+pub ruleset turn_bits = (turns-lt)
 
 -- ---- the answer against `replaceIns` of rules
 

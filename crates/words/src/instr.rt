@@ -127,6 +127,7 @@ fn fall(removed: u16, n: u16) -> u16
 }
 
 impl Kind {
+    #[tactic(auto, unfolding(rules::specs::Instr::kindNumber))]
     pub fn number(self) -> u64
         ensures { result ≡ Instr.kindNumber (Told.kindTold self) }
     {
@@ -173,6 +174,7 @@ impl AnyReg {
     }
 
     // A field after the removal of this register: it falls if it is of the register's kind.
+    #[tactic(auto, unfolding(rules::specs::Instr::fallOf))]
     fn fall_of(self, kind: Kind, n: u16) -> u16
         ensures { result ≡ Instr.fallOf (Told.regTold self).0 (Told.regTold self).1 (Told.kindTold kind) n }
     {
@@ -332,6 +334,7 @@ impl Instruction {
 
 // Packing, a function for each shape.
 impl Instruction {
+    #[tactic(auto, unfolding(rules::specs::Word::insWord))]
     fn word(op: u64, fst: u16, snd: u16, thd: u16) -> Instruction
         requires { op < 64 }
         ensures { result.0 ≡ insWord (Instr.ins₃ op fst snd thd) }
@@ -377,6 +380,7 @@ impl Instruction {
 
     // An opcode on one register.
 
+    #[tactic(auto, using(crate::proofs::Laws::opcodes))]
     pub fn of_num(op: u64, reg: NumReg) -> Instruction
         requires { Told.Shape op Instr.num Instr.unused Instr.unused }
         ensures { result.0 ≡ insWord (Instr.ins₁ op reg.0) }
@@ -384,6 +388,7 @@ impl Instruction {
         Self::word(op, reg.0, 0, 0)
     }
 
+    #[tactic(auto, using(crate::proofs::Laws::opcodes))]
     pub fn of_str(op: u64, reg: StrReg) -> Instruction
         requires { Told.Shape op Instr.str Instr.unused Instr.unused }
         ensures { result.0 ≡ insWord (Instr.ins₁ op reg.0) }
@@ -391,6 +396,7 @@ impl Instruction {
         Self::word(op, reg.0, 0, 0)
     }
 
+    #[tactic(auto, using(crate::proofs::Laws::opcodes))]
     pub fn of_val(op: u64, reg: ValReg) -> Instruction
         requires { Told.Shape op Instr.val Instr.unused Instr.unused }
         ensures { result.0 ≡ insWord (Instr.ins₁ op reg.0) }
@@ -400,6 +406,7 @@ impl Instruction {
 
     // An opcode on two registers: of one kind, or from a value to a number.
 
+    #[tactic(auto, using(crate::proofs::Laws::opcodes))]
     pub fn num_num(op: u64, fst: NumReg, snd: NumReg) -> Instruction
         requires { Told.Shape op Instr.num Instr.num Instr.unused }
         ensures { result.0 ≡ insWord (Instr.ins₂ op fst.0 snd.0) }
@@ -407,6 +414,7 @@ impl Instruction {
         Self::word(op, fst.0, snd.0, 0)
     }
 
+    #[tactic(auto, using(crate::proofs::Laws::opcodes))]
     pub fn str_str(op: u64, fst: StrReg, snd: StrReg) -> Instruction
         requires { Told.Shape op Instr.str Instr.str Instr.unused }
         ensures { result.0 ≡ insWord (Instr.ins₂ op fst.0 snd.0) }
@@ -414,6 +422,7 @@ impl Instruction {
         Self::word(op, fst.0, snd.0, 0)
     }
 
+    #[tactic(auto, using(crate::proofs::Laws::opcodes))]
     pub fn val_val(op: u64, fst: ValReg, snd: ValReg) -> Instruction
         requires { Told.Shape op Instr.val Instr.val Instr.unused }
         ensures { result.0 ≡ insWord (Instr.ins₂ op fst.0 snd.0) }
@@ -421,6 +430,7 @@ impl Instruction {
         Self::word(op, fst.0, snd.0, 0)
     }
 
+    #[tactic(auto, using(crate::proofs::Laws::opcodes))]
     pub fn val_num(op: u64, from: ValReg, to: NumReg) -> Instruction
         requires { Told.Shape op Instr.val Instr.num Instr.unused }
         ensures { result.0 ≡ insWord (Instr.ins₂ op from.0 to.0) }
@@ -429,6 +439,7 @@ impl Instruction {
     }
 
     // A comparison of two values, into a number.
+    #[tactic(auto, using(crate::proofs::Laws::opcodes))]
     pub fn val_val_num(op: u64, left: ValReg, right: ValReg, out: NumReg) -> Instruction
         requires { Told.Shape op Instr.val Instr.val Instr.num }
         ensures { result.0 ≡ insWord (Instr.ins₃ op left.0 right.0 out.0) }
@@ -439,24 +450,28 @@ impl Instruction {
 
 // Unpacking.
 impl Instruction {
+    #[tactic(auto, unfolding(rules::specs::Word::wordIns))]
     pub fn op(self) -> u64
         ensures { result ≡ (wordIns self.0).op }
     {
         self.0 >> 58
     }
 
+    #[tactic(auto, unfolding(rules::specs::Word::wordIns))]
     pub fn fst(self) -> u16
         ensures { result ≡ (wordIns self.0).fst }
     {
         ((self.0 >> 42) % 65536) as u16
     }
 
+    #[tactic(auto, unfolding(rules::specs::Word::wordIns))]
     pub fn snd(self) -> u16
         ensures { result ≡ (wordIns self.0).snd }
     {
         ((self.0 >> 26) % 65536) as u16
     }
 
+    #[tactic(auto, unfolding(rules::specs::Word::wordIns))]
     pub fn thd(self) -> u16
         ensures { result ≡ (wordIns self.0).thd }
     {
@@ -464,6 +479,7 @@ impl Instruction {
     }
 
     // The bits that must be zero.
+    #[tactic(auto, unfolding(rules::specs::Word::insSpare))]
     pub fn spare(self) -> u64
         ensures { result ≡ insSpare self.0 }
     {
@@ -471,6 +487,7 @@ impl Instruction {
     }
 
     // The word of its fields alone.
+    #[tactic(auto, using(crate::proofs::Laws::opcodes))]
     pub fn plain(self) -> Instruction
         ensures { result.0 ≡ insWord (wordIns self.0) }
     {
@@ -480,6 +497,7 @@ impl Instruction {
 
 impl Instruction {
     // What each opcode's fields hold, and what it does with them.
+    #[tactic(auto, unfolding(rules::specs::Instr::table, rules::specs::Instr::kinds))]
     pub fn fields(op: u64) -> Fields
         ensures kinds { Told.kindsTold result ≡ Instr.kinds op }
         ensures row { Told.fieldsTold result ≡ get_elem? Instr.table op }
@@ -516,6 +534,7 @@ impl Instruction {
         }
     }
 
+    #[tactic(auto, using(crate::proofs::Rows::reads_told))]
     pub fn reads(self) -> Reads
         ensures { Told.readsTold result ≡ Told.counted (Instr.reads (wordIns self.0)) }
     {
@@ -533,6 +552,7 @@ impl Instruction {
         }
     }
 
+    #[tactic(auto, using(crate::proofs::Rows::modifies_told))]
     pub fn modifies(self) -> Modified
         ensures { Told.modifiedTold result ≡ Instr.modifies (wordIns self.0) }
     {
@@ -553,6 +573,7 @@ impl Instruction {
         self.op() <= Self::JUMP_IF_ERROR
     }
 
+    #[tactic(auto, unfolding(rules::specs::Instr::getSection))]
     pub fn get_section(self) -> Target
         ensures { Told.targetTold result ≡ Instr.getSection (wordIns self.0) }
     {
@@ -572,6 +593,7 @@ impl Instruction {
         self.plain()
     }
 
+    #[tactic(auto, using(crate::proofs::Laws::opcodes, crate::proofs::Rows::removed_told))]
     pub fn remove_reg(self, reg: AnyReg) -> Instruction
         ensures { result.0 ≡ insWord (Instr.removeReg (Told.regTold reg).0 (Told.regTold reg).1 (wordIns self.0)) }
     {
@@ -584,12 +606,14 @@ impl Instruction {
         Self::word(self.op(), fst, snd, thd)
     }
 
+    #[tactic(auto, unfolding(rules::specs::Instr::removeSection))]
     pub fn remove_section(self, section: Section) -> Instruction
         ensures { result.0 ≡ insWord (Instr.removeSection section.0 (wordIns self.0)) }
     {
         self.aimed(Section(fall(section.0, self.fst())))
     }
 
+    #[tactic(auto, unfolding(rules::specs::Instr::checkedRemoveSection, rules::specs::Instr::getSection))]
     pub fn checked_remove_section(self, section: Section) -> Checked
         ensures { Told.checkedTold result ≡ Told.packed (Instr.checkedRemoveSection section.0 (wordIns self.0)) }
     {
@@ -611,6 +635,7 @@ impl Instruction {
         }
     }
 
+    #[tactic(auto, unfolding(rules::specs::Instr::canRuntimeErr))]
     pub fn can_runtime_err(self) -> bool
         ensures { result ≡ Instr.canRuntimeErr (wordIns self.0).op }
     {
@@ -621,6 +646,7 @@ impl Instruction {
     }
 
     // The rule for an opcode whose first two fields are one register.
+    #[tactic(auto, unfolding(rules::specs::Replace::lookup, rules::specs::Replace::rules))]
     fn dup_rule(op: u64) -> DupRule
         ensures { Told.ruleTold result ≡ lookup op rules }
     {
@@ -643,6 +669,7 @@ impl Instruction {
         }
     }
 
+    #[tactic(auto, using(crate::proofs::Rules::turn_bits))]
     pub fn dup_replace_with(self) -> Replaced
         ensures { result ≡ Told.replacedOf (ruleOf (wordIns self.0)) (wordIns self.0) }
     {

@@ -21,6 +21,7 @@ pub enum SectionOrLine {
 impl SectionOrLine {
     // The kind and the target of its word.
 
+    #[tactic(auto, unfolding(rules::specs::Tables::kind_of))]
     fn kind(self) -> u64
         ensures { result ≡ Tables.kind_of (Runs.successTold self) }
     {
@@ -31,6 +32,7 @@ impl SectionOrLine {
         }
     }
 
+    #[tactic(auto, unfolding(rules::specs::Tables::target_of))]
     fn target(self) -> u16
         ensures { result ≡ Tables.target_of (Runs.successTold self) }
     {
@@ -43,6 +45,7 @@ impl SectionOrLine {
 }
 
 // The field of a flag.
+#[tactic(auto, unfolding(rules::specs::Tables::flag))]
 fn flag(b: bool) -> u64
     ensures { result ≡ Tables.flag b }
 {
@@ -58,6 +61,7 @@ impl SectionWord {
 
     const LINE: u64 = 1;
 
+    #[tactic(auto, unfolding(rules::specs::Word::runWord))]
     fn word(start: u64, kind: u64, target: u16, first: u16, count: u16) -> SectionWord
         requires { (start < 2) × (kind < 2) }
         ensures { result.0 ≡ runWord (Runs.run start kind target first count) }
@@ -71,42 +75,49 @@ impl SectionWord {
         )
     }
 
+    #[tactic(auto, using(crate::proofs::Sections::one_bit))]
     pub fn pack(start: bool, success: SectionOrLine, first: u16, count: u16) -> SectionWord
         ensures { result.0 ≡ runWord (Runs.run_of start (Runs.successTold success) first count) }
     {
         Self::word(flag(start), success.kind(), success.target(), first, count)
     }
 
+    #[tactic(auto, unfolding(rules::specs::Word::wordRun))]
     fn start(self) -> u64
         ensures { result ≡ (wordRun self.0).lineStart }
     {
         self.0 >> 63
     }
 
+    #[tactic(auto, unfolding(rules::specs::Bits::isOne))]
     pub fn line_start(self) -> bool
         ensures { result ≡ isOne (wordRun self.0).lineStart }
     {
         self.start() == 1
     }
 
+    #[tactic(auto, unfolding(rules::specs::Word::wordRun))]
     pub fn kind(self) -> u64
         ensures { result ≡ (wordRun self.0).kind }
     {
         (self.0 >> 62) % 2
     }
 
+    #[tactic(auto, unfolding(rules::specs::Word::wordRun))]
     pub fn target(self) -> u16
         ensures { result ≡ (wordRun self.0).target }
     {
         ((self.0 >> 46) % 65536) as u16
     }
 
+    #[tactic(auto, unfolding(rules::specs::Word::wordRun))]
     pub fn first(self) -> u16
         ensures { result ≡ (wordRun self.0).first }
     {
         ((self.0 >> 30) % 65536) as u16
     }
 
+    #[tactic(auto, unfolding(rules::specs::Word::wordRun))]
     pub fn count(self) -> u16
         ensures { result ≡ (wordRun self.0).count }
     {
@@ -114,12 +125,14 @@ impl SectionWord {
     }
 
     // The bits that must be zero.
+    #[tactic(auto, unfolding(rules::specs::Word::runSpare))]
     pub fn spare(self) -> u64
         ensures { result ≡ runSpare self.0 }
     {
         self.0 % 16384
     }
 
+    #[tactic(auto, unfolding(rules::specs::Tables::successOf, rules::specs::Bits::isOne))]
     pub fn success(self) -> SectionOrLine
         ensures { Runs.successTold result ≡ Tables.successOf (wordRun self.0) }
     {
@@ -135,6 +148,7 @@ impl SectionWord {
 
     // The word with another successor, first instruction or count.
 
+    #[tactic(auto, using(crate::proofs::Sections::one_bit))]
     pub fn with_success(self, success: SectionOrLine) -> SectionWord
         ensures { result.0 ≡ runWord (Runs.withSuccess (Runs.successTold success) (wordRun self.0)) }
     {
@@ -147,6 +161,7 @@ impl SectionWord {
         )
     }
 
+    #[tactic(auto, using(crate::proofs::Sections::one_bit))]
     pub fn with_first(self, first: u16) -> SectionWord
         ensures { result.0 ≡ runWord (Runs.withFirst first (wordRun self.0)) }
     {
@@ -159,6 +174,7 @@ impl SectionWord {
         )
     }
 
+    #[tactic(auto, using(crate::proofs::Sections::one_bit))]
     pub fn with_count(self, count: u16) -> SectionWord
         ensures { result.0 ≡ runWord (Runs.withCount count (wordRun self.0)) }
     {

@@ -10,6 +10,7 @@ ghost use Rattle.words.specs.Runs as Runs;
 pub struct StringWord(pub u32);
 
 impl StringWord {
+    #[tactic(auto, unfolding(rules::specs::Word::spanWord))]
     pub fn pack(start: u16, length: u16) -> StringWord
         requires { length < 128 }
         ensures { result.0 ≡ spanWord (Runs.span start length) }
@@ -17,12 +18,14 @@ impl StringWord {
         StringWord(((start as u32) << 16) + ((length as u32) << 9))
     }
 
+    #[tactic(auto, unfolding(rules::specs::Word::wordSpan))]
     pub fn start(self) -> u16
         ensures { result ≡ (wordSpan self.0).start }
     {
         (self.0 >> 16) as u16
     }
 
+    #[tactic(auto, unfolding(rules::specs::Word::wordSpan))]
     pub fn length(self) -> u16
         ensures { result ≡ (wordSpan self.0).size }
     {
@@ -30,6 +33,7 @@ impl StringWord {
     }
 
     // The bits that must be zero.
+    #[tactic(auto, unfolding(rules::specs::Word::spanSpare))]
     pub fn spare(self) -> u32
         ensures { result ≡ spanSpare self.0 }
     {
