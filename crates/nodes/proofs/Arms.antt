@@ -5,7 +5,6 @@ use Prim.Native.Nat.{ℕ, zero, suc, ◌-◌}
 use native.Mathlib.Omega.{arith}
 use native.Mathlib.Numerals.{sub-one}
 use Rattle.rules.specs.Constants.{exprKindBits, stmtKindBits}
-use Rattle.rules.specs.Refusal.{unassigned}
 use Rattle.rules.specs.Bits.{Res, refused, ok}
 use Rattle.rules.specs.Tree.{Expr, Block}
 use Rattle.rules.specs.Parse.{At, expr, stmt, bits, begin, refuse, exprKinds, stmtKinds, binopOf, unopOf, gotoOf, iteOf, step_of, assignOf}
@@ -74,14 +73,3 @@ module _ (n d : ℕ) {k : ℕ} {s : List ℕ} {c c1 : At} {res : Res ((Block →
   pub arm-assign : k ≡ 3 → Gives (beginR stmtKindBits d) s c (ok (k, c1)) → Gives (assignOf n (expr n (d - 1))) s c1 res → Gives (stmt n d) s c res
   unfolding stmtArm stmtKinds
   arm-assign e g a = stmt-arm n d k g (rw e a)
-
-no_arm : (n d k : ℕ) {s : List ℕ} {c : At} → (k ≡ 0 → ⊥) → (k ≡ 1 → ⊥) → (k ≡ 2 → ⊥) → (k ≡ 3 → ⊥) → Gives (stmtArm n d k) s c (refused unassigned)
-unfolding stmtArm stmtKinds refuse
-no_arm n d zero a b e f = absurd (a refl)
-no_arm n d (suc zero) a b e f = absurd (b refl)
-no_arm n d (suc (suc zero)) a b e f = absurd (e refl)
-no_arm n d (suc (suc (suc zero))) a b e f = absurd (f refl)
-no_arm n d (suc (suc (suc (suc k)))) a b e f = record { is = refl }
-
-pub arm-none : (n d : ℕ) {k : ℕ} {s : List ℕ} {c c1 : At} → (k ≡ 0 → ⊥) → (k ≡ 1 → ⊥) → (k ≡ 2 → ⊥) → (k ≡ 3 → ⊥) → Gives (beginR stmtKindBits d) s c (ok (k, c1)) → Gives (stmt n d) s c (refused unassigned)
-arm-none n d {k} a b e f g = stmt-arm n d k g (no_arm n (d - 1) k a b e f)

@@ -1,4 +1,4 @@
--- Laws of `Builds`: an answer opened, a node closed, a step passed on. Assumes nothing.
+-- Laws of `Builds`: a refusal passed on, a node closed, a step behind another. Assumes nothing.
 use mathlib.Core.Path.{◌≡◌, refl, ap}
 use mathlib.Core.List.{List}
 use Prim.Native.Nat.{ℕ, zero, suc, ◌+◌, ◌<◌}
@@ -15,20 +15,13 @@ use Rattle.bits.specs.declared.Step.{Step}
 use Rattle.bits.specs.declared.Step.TheVariants.{Next, Refused}
 use Rattle.nodes.specs.Words.{incdecKind, stepKind}
 use Rattle.nodes.specs.Width.{width}
-use Rattle.nodes.specs.Builds.{Agree, Built, Builds, Closed, leafR, flagR, held_f, countF, heldE, countE, heldS, countS, Valueless, before}
+use Rattle.nodes.specs.Builds.{Agree, Builds, Closed, leafR, flagR, held_f, countF, heldE, countE, heldS, countS, Valueless, before}
 use Rattle.nodes.specs.Holds.{at-incdec}
 use Rattle.bits.proofs.Gives.{then, stop, done, Seen, said, see, unique, refuses as refuses-at}
 use Rattle.nodes.proofs.Table.{agree_trans, set_below, set-above, set_here}
 use Rattle.nodes.proofs.Puts.{put_step}
 
 module _ {A : Type 0} {r : Reader A} {H : List ℕ → ℕ → ℕ → A → ℕ → Type 0} {Q : A → Cursor → Cursor → Type 0} {s t t' : List ℕ} {b c : Cursor} {st : Step} where
-  -- an answer opened, by what the code learnt of it
-  pub built : {v : ℕ} {d : Cursor} → Builds r H Q s t t' b c st → st ≡ Next v d → Built r H Q s t t' b c v d
-  built h e = rw e at h.here
-
-  pub unbuilt : {x : ℕ} → Builds r H Q s t t' b c st → st ≡ Refused x → Gives r s (at c) (refused x)
-  unbuilt h e = rw e at h.here
-
   -- a refusal that is passed on
   pub refuses : {x : ℕ} → st ≡ Refused x → Gives r s (at c) (refused x) → Builds r H Q s t t' b c st
   refuses e g = rw e (record { here = g })

@@ -2,7 +2,7 @@
 use mathlib.Core.Path.{◌≡◌, sym, ◌∙◌}
 use Prim.Native.Nat.{ℕ, ◌/◌, ◌%◌, ◌<◌}
 use native.Mathlib.Omega.{arith}
-use Rattle.nodes.specs.Words.{word_of, iteWord}
+use Rattle.nodes.specs.Words.{word_of}
 
 pub record Unpacked (kind op name pos last width w : ℕ) : Type 0 where
   pub kind-is : w % 16 ≡ kind
@@ -27,18 +27,6 @@ unpacked kind op name pos last width w f e = omega arith
 pub kind-of : (kind op name pos last width w : ℕ) → kind < 16 → w ≡ word_of kind op name pos last width → w % 16 ≡ kind
 unfolding word_of
 kind-of kind op name pos last width w h e = omega arith
-
--- an Ite's: its counts a and b, its widths v and w
-pub record IteUnpacked (a b v w last g : ℕ) : Type 0 where
-  pub then-count : g / 256 % 256 ≡ a
-  pub else-count : g / 65536 % 64 ≡ b
-  pub then-width : g / 34359738368 % 8192 ≡ v
-  pub else-width : g / 4194304 % 8192 ≡ w
-  pub last-is : g / 281474976710656 ≡ last
-
-pub ite-unpacked : (a b v w last g : ℕ) → a < 64 → b < 64 → v < 8192 → w < 8192 → g ≡ iteWord a b v w last → IteUnpacked a b v w last g
-unfolding word_of
-ite-unpacked a b v w last g p q r s e = omega arith
 
 -- two readings of one word
 pub record Twice (o o' n n' p p' l l' v v' : ℕ) : Type 0 where

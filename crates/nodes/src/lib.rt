@@ -2,6 +2,8 @@
 //
 // Each reader is shown equal to that of `rules`: it refuses as that does, or the table holds what that reads (specs/Holds) and the
 // cursor has counted it. A caller owes a table for as many nodes as the file can have, at most 255 names and a cursor within the limits (`Ready`).
+#![tactic(auto)]
+
 pub mod kinds;
 pub mod layout;
 
@@ -25,6 +27,7 @@ use kinds::{
 };
 
 // A node's word.
+#[tactic(auto, unfolding(crate::specs::Words::word_of))]
 fn word(kind: u64, op: u64, name: u64, pos: usize, last: usize, width: usize) -> u64
     requires { (kind < 16) × (op < 16) × (name < 256) × (pos < 524288) × (last < 4096) × (width < 8192) }
     ensures { result ≡ word_of kind op name pos last width }
@@ -44,6 +47,7 @@ fn close(t: &mut [u64], i: usize, kind: u64, op: u64, name: u64, pos: usize, c: 
 }
 
 // An Ite's list makes one section where it is empty.
+#[tactic(auto, unfolding(crate::specs::Width::orOne))]
 fn or_one(n: usize) -> usize
     ensures { result ≡ orOne n }
 {
@@ -54,6 +58,7 @@ fn or_one(n: usize) -> usize
 }
 
 // The Ite i is done: its lists of a and b statements began at the sections x and y. Its word keeps how many they make.
+#[tactic(auto, unfolding(crate::specs::Width::orOne))]
 fn close_ite(t: &mut [u64], i: usize, a: u64, b: u64, x: usize, y: usize, c: Cursor) -> Step
     requires { (i < length t.old) × (a < 64) × (b < 64) × (c.nodes ≤ mostNodes) × (Spans x y c.sections) }
     ensures { Closed t.old t.new i (iteWord a b (orOne (y - x)) (orOne (c.sections - y)) c.nodes) (joined x y c) result }
