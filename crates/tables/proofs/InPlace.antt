@@ -1,6 +1,6 @@
 -- Words of a table changed in place, one turn after the other: what is done, then what is left to do, is all that was to do. Assumes nothing.
 use mathlib.Core.Path.{◌≡◌, refl, sym, ap, ◌∙◌}
-use mathlib.Core.List.{List, [], ◌∷◌, ◌++◌, map, append_assoc, append-nil}
+use mathlib.Core.List.{List, [], ◌∷◌, ◌++◌, map, append_assoc}
 use Prim.Native.Nat.{ℕ, zero, suc, ◌+◌, ◌-◌, ◌<◌, ◌≤◌}
 use native.Mathlib.Omega.{arith}
 use native.Mathlib.Numerals.{add-one, unary_clauses}
@@ -71,9 +71,6 @@ pub head-same : (x : ℕ) (l l' : List ℕ) → drop x l ≡ drop x l' → get_o
 head-same x l l' e = head-is x l ∙ ap (λ (y : List ℕ). get_or y 0 0) e ∙ sym (head-is x l')
 
 -- ---- words moved down
-
-pub down-none : (l : List ℕ) (a b : ℕ) → Down l l a b 0
-down-none l a b = let z : b + 0 ≡ b = omega arith in record { front = rw (z, append-nil); back = refl }
 
 module _ (l m : List ℕ) (a b i : ℕ) (h : b ≤ a) (k : a + i < length m) (n : length m ≡ length l) (d : Down l m a b i) where
   pub down-more : Down l (set m (b + i) (get_or m (a + i) 0)) a b (i + 1)

@@ -30,6 +30,7 @@ fn count_fits(n: usize, len: usize) -> bool
     (n <= Counts::MOST) & (n <= len)
 }
 
+#[tactic(auto, unfolding(rules::specs::Tables::countsFit, rules::specs::Tables::countFits))]
 pub fn counts_fit(
     c: Counts,
     sections: &[u64],

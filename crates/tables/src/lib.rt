@@ -1,4 +1,6 @@
 // A machine in lent tables: its counts, the rules of its words, and the text of a string register. A pass over a machine checks it first.
+#![tactic(auto)]
+
 pub mod answer;
 pub mod check;
 pub mod counts;

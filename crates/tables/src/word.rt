@@ -14,6 +14,7 @@ use words::section::{SectionOrLine, SectionWord};
 use words::text::StringWord;
 
 // A field: a register or a section below its count, 0 where it is unused.
+#[tactic(auto, unfolding(rules::specs::Tables::fieldFits))]
 fn field_fits(c: Counts, kind: Kind, n: u16) -> bool
     ensures { result ≡ fieldFits (countsTold c) (kindTold kind) n }
 {
@@ -27,6 +28,7 @@ fn field_fits(c: Counts, kind: Kind, n: u16) -> bool
     }
 }
 
+#[tactic(auto, unfolding(rules::specs::Tables::insFits))]
 pub fn instruction_fits(c: Counts, w: Instruction) -> bool
     ensures { result ≡ insFits (countsTold c) w.0 }
 {
@@ -40,6 +42,7 @@ pub fn instruction_fits(c: Counts, w: Instruction) -> bool
 }
 
 // A successor: a section or a goto's register below its count, or unfixed.
+#[tactic(auto, unfolding(rules::specs::Tables::successFits))]
 fn success_fits(c: Counts, w: SectionWord) -> bool
     ensures { result ≡ successFits (countsTold c) (successOf (wordRun w.0)) }
 {
@@ -71,6 +74,7 @@ fn start_fits(c: Counts, i: usize, w: SectionWord) -> bool
 }
 
 // A section's word as number i, whose run begins at instruction k.
+#[tactic(auto, unfolding(crate::specs::Rules::sectionFits))]
 pub fn section_fits(c: Counts, i: usize, k: usize, w: SectionWord) -> bool
     ensures { result ≡ sectionFits (countsTold c) i k w.0 }
 {
@@ -78,6 +82,7 @@ pub fn section_fits(c: Counts, i: usize, k: usize, w: SectionWord) -> bool
 }
 
 // A string's word lies inside the counted pool.
+#[tactic(auto, unfolding(rules::specs::Tables::spanFits))]
 pub fn string_fits(c: Counts, w: StringWord) -> bool
     ensures { result ≡ spanFits (countsTold c) w.0 }
 {
@@ -85,6 +90,7 @@ pub fn string_fits(c: Counts, w: StringWord) -> bool
 }
 
 // A name's register is below the count, or it has none.
+#[tactic(auto, unfolding(rules::specs::Tables::nameFits))]
 pub fn name_fits(c: Counts, n: u16) -> bool
     ensures { result ≡ nameFits (countsTold c) n }
 {
