@@ -71,12 +71,12 @@ all_cons p x xs false e = rw (e, allb)
 
 -- ---- the runs' total
 
-runs-cons : (u : Counts) (i k w : ℕ) (ws : List ℕ) (b : Bool) → sectionFits u i k w ≡ b → runsFit u i k (w ∷ ws) ≡ cond b (runsFit u (suc i) (k + count_of w) ws) false
+pub runs-cons : (u : Counts) (i k w : ℕ) (ws : List ℕ) (b : Bool) → sectionFits u i k w ≡ b → runsFit u i k (w ∷ ws) ≡ cond b (runsFit u (suc i) (k + count_of w) ws) false
 unfolding runsFit sectionFits count_of
 runs-cons u i k w ws true e = rw (e, runsFit)
 runs-cons u i k w ws false e = rw (e, runsFit)
 
-runs-nil : (u : Counts) (i k : ℕ) → runsFit u i k [] ≡ eqb k u.instrs
+pub runs-nil : (u : Counts) (i k : ℕ) → runsFit u i k [] ≡ eqb k u.instrs
 unfolding runsFit
 runs-nil u i k = refl
 

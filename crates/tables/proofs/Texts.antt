@@ -1,21 +1,19 @@
--- The text of a string register at each way out of the code's tests. Assumes nothing.
-use mathlib.Core.Path.{◌≡◌, refl, sym, ap₂, ◌∙◌, subst}
+-- The place of a string register's text: inside the pool, and short. Assumes nothing.
+use mathlib.Core.Path.{◌≡◌, refl, sym, ap₂, subst}
 use mathlib.Core.Bool.{Bool, true, false, cond, ◌&&◌}
 use mathlib.Core.List.{List, [], ◌∷◌}
 use mathlib.Core.Option.{Option, none, some}
-use Prim.Native.Nat.{ℕ, zero, suc, ◌+◌, ◌-◌, ◌<◌, ◌≤◌}
+use Prim.Native.Nat.{ℕ, zero, suc, ◌+◌, ◌<◌, ◌≤◌}
 use native.Mathlib.Omega.{arith}
-use native.Mathlib.Nat.{add-sub_cancel_left}
 use lib.Dec.{eqb, leb}
-use lib.ListN.{length, take, drop, get_or, get_elem?}
-use borrow.Author.Tests.{le-leb, lt-leb, lt-ltb, le-ltb, leb-true, eq-eqb, ne_eqb}
+use lib.ListN.{length, get_or, get_elem?}
+use borrow.Author.Tests.{le-ltb, leb-true}
 use Rattle.rules.specs.Constants.{mostCount}
 use Rattle.rules.specs.Word.{Span, wordSpan, spanSpare}
-use Rattle.rules.specs.Operations.{stringWord, textSpan, text}
-use Rattle.laws.specs.Table.{past_end}
+use Rattle.rules.specs.Operations.{stringWord, textSpan}
 use Rattle.laws.specs.Words.{span_small}
 
-at_some : (l : List ℕ) (n : ℕ) → n < length l → some (get_or l n 0) ≡ get_elem? l n
+pub at_some : (l : List ℕ) (n : ℕ) → n < length l → some (get_or l n 0) ≡ get_elem? l n
 at_some [] n h = absurd (omega arith)
 at_some (x ∷ l) zero h = refl
 at_some (x ∷ l) (suc n) h = at_some l n (omega arith)
@@ -23,12 +21,8 @@ at_some (x ∷ l) (suc n) h = at_some l n (omega arith)
 abbrev span_of : ℕ → ℕ → Span
 span_of s n = record { start = s; size = n }
 
--- a register's word is there, or the number is no register's
-word-there : (strings : List ℕ) (r : ℕ) → r < mostCount → stringWord strings r ≡ get_elem? strings r
-unfolding stringWord
-word-there strings r h = rw (lt-ltb r mostCount h, stringWord)
-
-pub no_number : (strings : List ℕ) (r : ℕ) → mostCount ≤ r → none ≡ stringWord strings r
+-- a number that is no register's
+no_number : (strings : List ℕ) (r : ℕ) → mostCount ≤ r → none ≡ stringWord strings r
 unfolding stringWord
 no_number strings r h = sym (rw (le-ltb r mostCount h, stringWord))
 
@@ -44,23 +38,6 @@ module _ (strings pool : List ℕ) (r : ℕ) where
 
   pub past-registers : mostCount ≤ r → span_of (length pool) 0 ≡ textSpan strings pool r
   past-registers h = span_none (no_number strings r h)
-
-  pub no_register : r < mostCount → length strings ≤ r → span_of (length pool) 0 ≡ textSpan strings pool r
-  no_register b h = span_none (past_end strings r h ∙ sym (word-there strings r b))
-
-  module _ (b : r < mostCount) (h : r < length strings) (z : ℕ) (z-is : z ≡ spanSpare (get_or strings r 0)) where
-    pub no-zeros : (z ≡ 0 → ⊥) → span_of (length pool) 0 ≡ textSpan strings pool r
-    no-zeros n = span-some (get_or strings r 0) (at_some strings r h ∙ sym (word-there strings r b)) false (rw (← z-is, ne_eqb z 0 n))
-
-    module _ (e : z ≡ 0) (s n : ℕ) (s-is : s ≡ (wordSpan (get_or strings r 0)).start) (n-is : n ≡ (wordSpan (get_or strings r 0)).size) where
-      inside : (t : Bool) → leb (s + n) (length pool) ≡ t → cond t (wordSpan (get_or strings r 0)) (span_of (length pool) 0) ≡ textSpan strings pool r
-      inside t d = span-some (get_or strings r 0) (at_some strings r h ∙ sym (word-there strings r b)) t (rw (← z-is, eq-eqb z 0 e, ← s-is, ← n-is) (sym d))
-
-      pub past-pool : length pool < s + n → span_of (length pool) 0 ≡ textSpan strings pool r
-      past-pool l = inside false (lt-leb _ _ l)
-
-      pub in-pool : s + n ≤ length pool → span_of s n ≡ textSpan strings pool r
-      in-pool l = rw (s-is, n-is) (inside true (le-leb _ _ l))
 
   -- what holds of the pool's end, and of every word's place in the pool, holds of a text's place
   module _ (P : Span → Type 0) (none_is : P (span_of (length pool) 0)) (some_is : (w : ℕ) → (wordSpan w).start + (wordSpan w).size ≤ length pool → P (wordSpan w)) where
@@ -82,14 +59,6 @@ module _ (strings pool : List ℕ) (r : ℕ) where
         go : (x : Option ℕ) → stringWord strings r ≡ x → P (textSpan strings pool r)
         go none e = subst P (span_none (sym e)) none_is
         go (some w) e = word-by w (sym e)
-
-  -- the part of the pool at that place is the text
-  text-is : text strings pool r ≡ take (textSpan strings pool r).size (drop (textSpan strings pool r).start pool)
-  unfolding text
-  text-is = refl
-
-  pub at_place : (b o s n : ℕ) → span_of s n ≡ textSpan strings pool r → (take (s + n - s) (drop s pool) ≡ text strings pool r) × (◌≡◌ {A = ℕ × ℕ} (b, s + o) (b, (textSpan strings pool r).start + o))
-  at_place b o s n e = (rw (text-is, ← e, add-sub_cancel_left), rw (← e))
 
   -- it lies in the pool, and is short
   pub place_inside : (s n : ℕ) → span_of s n ≡ textSpan strings pool r → s + n ≤ length pool

@@ -10,6 +10,7 @@ use words::instr::Instruction;
 use words::section::SectionWord;
 use words::text::StringWord;
 
+#[tactic(auto, using(crate::proofs::Walks::all_done, crate::proofs::Walks::all_at))]
 fn instructions_fit(c: Counts, t: &[u64]) -> bool
     requires { c.instructions ≤ length t.now }
     ensures { result ≡ allb (insFits (countsTold c)) (take c.instructions t.now) }
@@ -25,6 +26,7 @@ fn instructions_fit(c: Counts, t: &[u64]) -> bool
 }
 
 // Runs stand end to end from 0 and cover the counted instructions.
+#[tactic(auto, using(crate::proofs::Walks::runs_done, crate::proofs::Walks::runs_at), unfolding(crate::specs::Runs::count_of))]
 fn sections_fit(c: Counts, t: &[u64]) -> bool
     requires { (c.sections ≤ length t.now) × (c.sections ≤ 65535) }
     ensures { result ≡ runsFit (countsTold c) 0 0 (take c.sections t.now) }
@@ -42,6 +44,7 @@ fn sections_fit(c: Counts, t: &[u64]) -> bool
     k == c.instructions
 }
 
+#[tactic(auto, using(crate::proofs::Walks::all_done, crate::proofs::Walks::all_at))]
 fn strings_fit(c: Counts, t: &[u32]) -> bool
     requires { c.strings ≤ length t.now }
     ensures { result ≡ allb (spanFits (countsTold c)) (take c.strings t.now) }
@@ -56,6 +59,7 @@ fn strings_fit(c: Counts, t: &[u32]) -> bool
     true
 }
 
+#[tactic(auto, using(crate::proofs::Walks::all_done, crate::proofs::Walks::all_at))]
 fn names_fit(c: Counts, t: &[u16]) -> bool
     requires { c.names ≤ length t.now }
     ensures { result ≡ allb (nameFits (countsTold c)) (take c.names t.now) }
@@ -71,6 +75,7 @@ fn names_fit(c: Counts, t: &[u16]) -> bool
 }
 
 // Do the words keep the rules?
+#[tactic(auto, using(crate::proofs::Sound::counted), unfolding(rules::specs::Tables::fits, rules::specs::Tables::wordsFit))]
 pub fn check(
     c: Counts,
     sections: &[u64],

@@ -7,6 +7,7 @@ use crate::word::is_fixed;
 use words::section::SectionWord;
 
 // Is every one of the first n sections fixed?
+#[tactic(auto, using(crate::proofs::Walks::all_done, crate::proofs::Walks::all_at), unfolding(crate::specs::Runs::fixed_word))]
 pub fn all_fixed(sections: &[u64], n: usize) -> bool
     requires { n ≤ length sections.now }
     ensures { result ≡ allb fixed_word (take n sections.now) }

@@ -15,6 +15,7 @@ pub struct Place {
 }
 
 // A register's place; empty, at the pool's end, where register or word is bad.
+#[tactic(auto, using(crate::proofs::Texts::at_some, laws::specs::Table::past_end), unfolding(rules::specs::Operations::textSpan, rules::specs::Operations::stringWord))]
 pub fn text_place(strings: &[u32], pool: &[u8], register: StrReg) -> Place
     ensures { placeTold result ≡ Operations.textSpan strings.now pool.now register.0 }
 {
@@ -42,6 +43,7 @@ pub fn text_place(strings: &[u32], pool: &[u8], register: StrReg) -> Place
 }
 
 // That part of the pool.
+#[tactic(auto, using(crate::proofs::Texts::place_inside), unfolding(rules::specs::Operations::text))]
 pub fn text<'a>(strings: &[u32], pool: &'a [u8], register: StrReg) -> &'a [u8]
     ensures text { result.now ≡ Operations.text strings.now pool.now register.0 }
     ensures place { result.ref_ptr ≡ (pool.entry.ref_ptr.0, (Operations.textSpan strings.now pool.now register.0).start + pool.entry.ref_ptr.1) }
