@@ -52,6 +52,7 @@ pub enum Unop {
 }
 
 // The operator of a number in a tree file.
+#[tactic(auto, unfolding(rules::specs::Parse::binops))]
 pub fn binop_of(k: u64) -> Binop
     requires { k < 14 }
     ensures { binopTold result ≡ get_or binops k Tree.Gt }
@@ -74,6 +75,7 @@ pub fn binop_of(k: u64) -> Binop
     }
 }
 
+#[tactic(auto, unfolding(rules::specs::Parse::unops))]
 pub fn unop_of(k: u64) -> Unop
     requires { k < 11 }
     ensures { unopTold result ≡ get_or unops k Tree.Atan }
@@ -94,6 +96,7 @@ pub fn unop_of(k: u64) -> Unop
 }
 
 // A copy of a value register.
+#[tactic(auto, unfolding(rules::specs::Instr::kinds, rules::specs::Instr::table))]
 pub fn copy_valreg(instrs: &mut [u64], c: Counters, r: ValReg) -> GotVal
     requires { (c.at < length instrs.old) × (c.values < 65535) }
     ensures spent { Spent c result.next 1 0 1 0 0 }
@@ -110,6 +113,7 @@ pub fn copy_valreg(instrs: &mut [u64], c: Counters, r: ValReg) -> GotVal
 }
 
 // Whether a value is truthy, as a number.
+#[tactic(auto, unfolding(rules::specs::Instr::kinds, rules::specs::Instr::table))]
 pub fn make_truthy(instrs: &mut [u64], numbers: &mut [i64], c: Counters, r: ValReg) -> GotNum
     requires { Room c 1 1 0 (length instrs.old) (length numbers.old) }
     ensures spent { Spent c result.next 1 1 0 0 0 }
@@ -126,6 +130,7 @@ pub fn make_truthy(instrs: &mut [u64], numbers: &mut [i64], c: Counters, r: ValR
 }
 
 // A value as a number, or an error.
+#[tactic(auto, unfolding(rules::specs::Instr::kinds, rules::specs::Instr::table))]
 pub fn numberify(instrs: &mut [u64], numbers: &mut [i64], c: Counters, r: ValReg) -> GotNum
     requires { Room c 2 1 0 (length instrs.old) (length numbers.old) }
     ensures spent { Spent c result.next 2 1 0 0 0 }
@@ -237,6 +242,7 @@ pub fn make_cmp_binop(
 }
 
 // Ne: Eq, then NotNum.
+#[tactic(auto, unfolding(rules::specs::Instr::kinds, rules::specs::Instr::table))]
 pub fn make_ne(instrs: &mut [u64], numbers: &mut [i64], c: Counters, l: ValReg, r: ValReg) -> GotVal
     requires { Room c 3 1 1 (length instrs.old) (length numbers.old) }
     ensures spent { Spent c result.next 3 1 1 0 0 }
@@ -263,6 +269,7 @@ pub fn apply_in_place(instrs: &mut [u64], c: Counters, op: u64, l: ValReg, r: Va
 }
 
 // A binary operator on registers of its own. Ge is Le with right and left exchanged, Gt so with Lt.
+#[tactic(auto, unfolding(rules::specs::Instr::kinds, rules::specs::Instr::table, rules::specs::Instr::canRuntimeErr, rules::specs::Operators::applyBinop, crate::specs::Costs::binopCost, crate::specs::Costs::guardCost))]
 pub fn apply_binop(
     instrs: &mut [u64],
     numbers: &mut [i64],
@@ -311,6 +318,7 @@ pub fn codegen_from_binop(
 }
 
 // Not: of a value, without numberifying.
+#[tactic(auto, unfolding(rules::specs::Instr::kinds, rules::specs::Instr::table))]
 pub fn make_not(instrs: &mut [u64], numbers: &mut [i64], c: Counters, r: ValReg) -> GotVal
     requires { Room c 2 1 1 (length instrs.old) (length numbers.old) }
     ensures spent { Spent c result.next 2 1 1 0 0 }
@@ -343,6 +351,7 @@ pub fn apply_in_number(
 }
 
 // A unary operator on a register of its own.
+#[tactic(auto, unfolding(rules::specs::Instr::kinds, rules::specs::Instr::table, rules::specs::Operators::applyUnop, crate::specs::Costs::unopCost))]
 pub fn apply_unop(
     instrs: &mut [u64],
     numbers: &mut [i64],
@@ -385,6 +394,7 @@ pub fn codegen_from_unop(
     apply_unop(instrs, numbers, x.next, unop_of(op), x.reg)
 }
 
+#[tactic(auto, unfolding(rules::specs::Operators::incdecOp))]
 fn incdec_op(inc: bool) -> u64
     ensures { result ≡ incdecOp inc }
 {
