@@ -5,7 +5,7 @@ use lib.IntN.{pos}
 use Rattle.rules.specs.Opcode as Op
 use Rattle.rules.specs.Instr.{ins₁, ins₂, ins₃, canRuntimeErr}
 use mathlib.Core.Bool.{Bool}
-use Rattle.rules.specs.CodegenData.{Lower, pure, emit, newNum, newVal}
+use Rattle.rules.specs.CodegenData.{pure, emit, newNum, newVal}
 use Rattle.rules.specs.Operators.{errorJump, getVariable, copyValreg, makeTruthy, numberify, makeVal, makeLogicBinop, guard, makeArithBinop, makeCmpBinop, makeNe, applyInPlace, makeNot, applyInNumber, incdecOp, codegenIncdec}
 use Rattle.codegen.specs.Does.{◌▷◌}
 

@@ -1,29 +1,27 @@
 -- The laws of `Does`: a step that changes nothing, one step after another, and the steps that change one table. Assumes nothing.
 use mathlib.Core.Path.{◌≡◌, refl, sym, ap, subst, ◌∙◌}
 use mathlib.Core.Bool.{Bool, true, false}
-use mathlib.Core.List.{List, [], ◌∷◌, ◌++◌, map}
+use mathlib.Core.List.{List, map}
 use mathlib.Core.Option.{Option, none, some}
-use Prim.Native.Nat.{ℕ, suc, ◌+◌, ◌≤◌, ◌<◌}
+use Prim.Native.Nat.{ℕ, ◌≤◌, ◌<◌}
 use native.Mathlib.Nat.{zero-add}
 use native.Mathlib.Omega.{arith}
 use lib.IntN.{ℤ}
 use lib.ListN.{length, set, get_or, length-append, length-set}
-use lib.Seq.{sets, get_or-set_same, get_or-set_other}
-use lib.Dec.{eqb, leb}
-use borrow.Author.Tests.{lt-leb, eqb-true, eqb-false}
+use lib.Seq.{sets}
+use borrow.Author.Tests.{lt-leb}
 use Rattle.rules.specs.Constants.{mark}
-use Rattle.rules.specs.Instr.{Instruction, ins₁, ins₂, ins₃, aimed, canRuntimeErr, Kind, unused, val, table, kinds}
-use Rattle.rules.specs.Word.{insWord, wordIns, spanWord, Span}
+use Rattle.rules.specs.Instr.{Instruction, ins₁, ins₂, ins₃, canRuntimeErr, Kind, unused, val, table, kinds}
+use Rattle.rules.specs.Word.{insWord, wordIns, spanWord}
 use Rattle.laws.specs.Table.{isPlace, opcode-bits, past-jumps}
 use Rattle.laws.specs.Words.{ins-back}
-use Rattle.rules.specs.CodegenData.{CodegenData, Lower, pure, emit, newNum, newStr, newVal, bindName}
+use Rattle.rules.specs.CodegenData.{CodegenData, Lower, pure, emit, newNum, newStr, newVal}
 use Rattle.rules.specs.Lowered.{spans, texts}
 use Rattle.rules.specs.Operators.{errorJump, getVariable, guard, incdecOp}
 use Rattle.words.specs.Told.{Shape}
-use Rattle.words.specs.declared.instr.Section.{Section}
 use Rattle.codegen.specs.declared.state.Counters.{Counters}
 use Rattle.codegen.specs.Does.{wordTo, regWord, Lent, lent, Base, Stands, Went, Does, DoesNone, DoesCode, DoesNums, ◌▷◌}
-use Rattle.codegen.specs.Costs.{Spent, plus-instr, plus-number, plus-value, plus-string, guardCost}
+use Rattle.codegen.specs.Costs.{Spent, plus-instr, plus-number, plus-string, guardCost}
 use Rattle.codegen.proofs.Lists.{sets-start, sets_more, map-append, length-map, length_more, texts-more, spans-more, length-spans, name-read, name-stored, below-stored}
 
 -- ---- the two laws of all steps
@@ -87,29 +85,6 @@ numbered {c = c} {ns = ns} z =
           name-words = s.name-words;
           named = s.named;
           below = s.below;
-        };
-      };
-    }
-
-pub valued : {n : ℕ} {c : Counters} {t : Lent} → Does n newVal c t t c.values (plus-value c)
-valued =
-    record {
-      from = λ b g s. record {
-        res = s.values;
-        stands = record {
-          err = s.err;
-          at = s.at;
-          numbers = s.numbers;
-          strings = s.strings;
-          chars = s.chars;
-          values = omega arith;
-          instr-words = s.instr-words;
-          number-words = s.number-words;
-          string-words = s.string-words;
-          pool-words = s.pool-words;
-          name-words = s.name-words;
-          named = s.named;
-          below = λ x v e. let h = s.below x v e in omega arith;
         };
       };
     }
@@ -234,14 +209,8 @@ incdec-shape false o e = rw e
 -- ---- what a thin step's contract comes to: counters, table and answer are known by equations
 
 module _ {c z : Counters} where
-  pub emit-spent : z ≡ plus-instr c → Spent c z 1 0 0 0 0
-  emit-spent e = rw e (record { at = refl; numbers = omega arith; values = omega arith; strings = omega arith; chars = omega arith })
-
   pub emit-does : {is is' : List ℕ} {w : ℕ} → is' ≡ set is c.at w → z ≡ plus-instr c → (i : Instruction) → w ≡ wordTo c.err.0 i → DoesCode (emit i) c is is' 0 z
   emit-does f e i q = rw (f, e) (record { does = emitted i q })
-
-  pub num-spent : z ≡ plus-number c → Spent c z 0 1 0 0 0
-  num-spent e = rw e (record { at = omega arith; numbers = omega arith; values = omega arith; strings = omega arith; chars = omega arith })
 
   pub num-does : {ns ns' : List ℤ} {v : ℕ} (x : ℤ) → v ≡ c.numbers → ns' ≡ set ns c.numbers x → z ≡ plus-number c → DoesNums (newNum x) c ns ns' v z
   num-does x q f e = rw (q, f, e) (record { does = numbered x })
@@ -253,9 +222,3 @@ module _ {c z : Counters} where
   pub str-does : {n : ℕ} {is : List ℕ} {ns : List ℤ} {ss ps ps' ms : List ℕ} (x : List ℕ) {h k v w : ℕ} → v ≡ c.strings → z ≡ plus-string h c → k ≡ v → h ≡ length x
       → w ≡ spanWord (record { start = c.chars; size = h }) → ps' ≡ sets ps c.chars x → Does n (newStr x) c (lent is ns ss ps ms) (lent is ns (set ss k w) ps' ms) v z
   str-does x p r e q w f = rw (e, p, r, f) (lettered x q w)
-
-  pub val-spent : z ≡ plus-value c → Spent c z 0 0 1 0 0
-  val-spent e = rw e (record { at = omega arith; numbers = omega arith; values = omega arith; strings = omega arith; chars = omega arith })
-
-  pub val-does : {v : ℕ} → v ≡ c.values → z ≡ plus-value c → DoesNone newVal c v z
-  val-does q e = rw (q, e) (record { does = valued })

@@ -1,5 +1,5 @@
 -- Lists: a run of stores behind another, texts and their places, and the registers of names in a table. Assumes nothing.
-use mathlib.Core.Path.{◌≡◌, refl, sym, ap, ◌∙◌}
+use mathlib.Core.Path.{◌≡◌, refl, ap}
 use mathlib.Core.List.{List, [], ◌∷◌, ◌++◌, map, append_assoc}
 use mathlib.Core.Option.{Option, none, some}
 use Prim.Native.Nat.{ℕ, zero, suc, ◌+◌, ◌<◌}
@@ -8,7 +8,6 @@ use native.Mathlib.Omega.{arith}
 use lib.ListN.{length, set, get_or, get_elem?, length-append}
 use lib.Seq.{sets}
 use Rattle.laws.specs.Stores.{sets-sets}
-use Rattle.rules.specs.Word.{Span, spanWord}
 use Rattle.rules.specs.Lowered.{spans, texts}
 use Rattle.codegen.specs.Does.{regWord}
 

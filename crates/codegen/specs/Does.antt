@@ -1,6 +1,6 @@
 -- What a step of the code does, in terms of the steps of `rules` (CodegenData). Lowering counts in `Counters` and writes into lent tables;
 -- `Stands` says that counters and tables show a state of `rules`, and `Does` that they still do after the step. Definitions only.
-use Rattle.std.specs.Prelude.{◌≡◌, List, [], ◌∷◌, ◌++◌, map, ℕ, ◌+◌, ◌≤◌, ◌<◌, ℤ, length, get_or}
+use Rattle.std.specs.Prelude.{◌≡◌, List, ◌++◌, map, ℕ, ◌+◌, ◌<◌, ℤ, length, get_or}
 use Rattle.std.proofs.Math.Option.{Option, none, some}
 use Rattle.std.proofs.lemmas.List.Edits.{sets}
 use Rattle.rules.specs.Constants.{mark}

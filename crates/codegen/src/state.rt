@@ -2,9 +2,8 @@
 // register.
 //
 // Each step is shown to do what the step of its name in `rules` (CodegenData, Operators) does. A caller owes room in the table, and
-// counts below 65,535. The counters are lent to the thin functions `emit_at`, `take_num`, `take_str` and `take_val`, which change them
-// in their place and are proved by hand; so are `emit_word`, `new_num`, `new_strreg` and `new_val`, which lend them and pass them on by value,
-// so that whoever calls these has no proof by hand.
+// counts below 65,535. The counters are lent to the thin functions `emit_at`, `take_num`, `take_str` and `take_val`, which change them in
+// their place; `emit_word`, `new_num`, `new_strreg` and `new_val` lend them and pass them on by value.
 ghost use Rattle.std.specs.Prelude.{◌≡◌, ℕ, ◌+◌, ◌≤◌, ◌<◌, length, set};
 ghost use Rattle.rules.specs.Instr.{Instruction as Ins};
 ghost use Rattle.rules.specs.CodegenData.{emit as emitS, newNum, newVal};
@@ -52,7 +51,7 @@ pub fn index(n: u16) -> usize
     n as usize
 }
 
-// A word at a place, which is answered with one more: what the thin functions leave to the checker.
+// A word at a place, which is answered with one more.
 fn put_instr(instrs: &mut [u64], n: usize, w: Instruction) -> usize
     requires { n < length instrs.old }
     ensures { (instrs.new ≡ set instrs.old n w.0) × (result ≡ n + 1) }
