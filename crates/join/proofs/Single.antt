@@ -1,9 +1,7 @@
 -- Single words and numbers, by what was read of them. Assumes nothing.
 use mathlib.Core.Path.{◌≡◌, ◌∙◌}
 use mathlib.Core.Bool.{Bool}
-use Prim.Native.Nat.{ℕ, zero, suc, ◌+◌, ◌-◌, ◌<◌, ◌≤◌}
-use native.Mathlib.Omega.{arith}
-use borrow.Author.Tests.{lt-ltb, le-ltb}
+use Prim.Native.Nat.{ℕ, ◌+◌}
 use Rattle.rules.specs.Bits.{isOne}
 use Rattle.rules.specs.Instr.{fall}
 use Rattle.rules.specs.Clean.{renNext}
@@ -13,13 +11,6 @@ use Rattle.rules.specs.Tables.{successOf}
 use Rattle.words.specs.Runs.{run_of}
 use Rattle.tables.specs.Runs.{count_of}
 use Rattle.join.specs.Passes.{mergedWord, word_at}
-
-pub falls : (j t : ℕ) → j < t → t - 1 ≡ fall j t
-falls j zero h = absurd (omega arith)
-falls j (suc t) h = let z : suc t - 1 ≡ t = omega arith in rw (lt-ltb j (suc t) h) z
-
-pub stays : (j t : ℕ) → t ≤ j → t ≡ fall j t
-stays j t h = rw (le-ltb j t h)
 
 pub count-field : (w c : ℕ) → c ≡ (wordRun w).count → c ≡ count_of w
 unfolding count_of

@@ -2,6 +2,8 @@
 //
 // `combine_sections` is shown equal to `combineAt` of `rules`. It asks that the words hold a machine, runs end to end, and that S2 stands
 // above S1. It touches each section word and each instruction word at most three times, and three section words once more.
+#![tactic(auto)]
+
 pub mod instructions;
 pub mod sections;
 
