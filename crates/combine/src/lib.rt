@@ -7,6 +7,8 @@
 // 4 × sections × (sections + instructions) words, and six more a section.
 //
 // `combine` is shown equal to `combine` of `rules`, and asks nothing. Before the pass it reads each word at most four times.
+#![tactic(auto)]
+
 pub mod references;
 pub mod refusals;
 pub mod search;

@@ -36,6 +36,7 @@ fn reaches(target: Target, s2: Section) -> usize
 }
 
 // How many of the first n sections go on to s2.
+#[tactic(auto, using(crate::proofs::Walks::nexts_none, crate::proofs::Walks::nexts_more))]
 fn successors_to(s2: Section, sections: &[u64], n: usize) -> usize
     requires { n ≤ length sections.now }
     ensures { (result ≡ refsNexts s2.0 (take n sections.now)) × (result ≤ n) }
@@ -50,6 +51,7 @@ fn successors_to(s2: Section, sections: &[u64], n: usize) -> usize
 }
 
 // One where it jumps to section s2, by its fields: the loop over all words then needs no branch.
+#[tactic(auto, unfolding(rules::specs::Instr::getSection))]
 fn jumps_here(w: Instruction, s2: Section) -> usize
     ensures { (result ≡ hits s2.0 (getSection (wordIns w.0))) × (result ≤ 1) }
 {
@@ -61,6 +63,7 @@ fn jumps_here(w: Instruction, s2: Section) -> usize
 }
 
 // How many of the first e instructions jump to s2.
+#[tactic(auto, using(crate::proofs::Walks::jumps_none, crate::proofs::Walks::jumps_more))]
 fn jumps_to(s2: Section, instructions: &[u64], e: usize) -> usize
     requires { e ≤ length instructions.now }
     ensures { (result ≡ refsJumps s2.0 (take e instructions.now)) × (result ≤ e) }

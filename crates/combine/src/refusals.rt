@@ -24,6 +24,7 @@ fn is_ahead(sections: &[u64], n: usize, i: usize) -> bool
 }
 
 // And so of each of the first n sections?
+#[tactic(auto, using(crate::proofs::Walks::ahead_done, crate::proofs::Walks::ahead_more))]
 pub fn all_ahead(sections: &[u64], n: usize) -> bool
     requires { n ≤ length sections.now }
     ensures { result ≡ wordsAhead sections.now n 0 (take n sections.now) }

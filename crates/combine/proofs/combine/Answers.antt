@@ -1,0 +1,28 @@
+-- Each way out is one of Whole.
+use Rattle.std.proofs.Common.{sym, rules}
+use Rattle.combine.proofs.Whole.{combine-12, keeps, few-sections, combine-14, combine-15, no-links-back, combine-done}
+use Rattle.combine.specs.Again.{fits-sound}
+use Rattle.combine.proofs.combine.Goals as goal
+
+pub returns-then-not-check : goal.returns-then-not-check
+returns-then-not-check c = combine-12 _ _ (sym c.if-not-check.ensures)
+
+pub all_fixed-requires : goal.all_fixed-requires
+all_fixed-requires c = few-sections _ _ (sym c.if-not-check.ensures)
+
+pub returns-then-not-all_fixed : goal.returns-then-not-all_fixed
+returns-then-not-all_fixed c = combine-14 _ _ (sym c.if-not-check.ensures) c.if-not-all_fixed.ensures
+
+pub all_ahead-requires : goal.all_ahead-requires
+all_ahead-requires c = few-sections _ _ (sym c.if-not-check.ensures)
+
+pub returns-then-not-all_ahead : goal.returns-then-not-all_ahead
+returns-then-not-all_ahead c = combine-15 _ _ (sym c.if-not-check.ensures) c.if-not-all_fixed.ensures c.if-not-all_ahead.ensures
+
+pub combine_all-left-requires : goal.combine_all-left-requires
+combine_all-left-requires c =
+    let k = sym c.if-not-check.ensures in
+    (fits-sound _ _ (keeps _ _ k) (search rules) (search rules), no-links-back _ _ k c.if-not-all_fixed.ensures c.if-not-all_ahead.ensures)
+
+pub returns : goal.returns
+returns c = combine-done _ _ (sym c.if-not-check.ensures) c.if-not-all_fixed.ensures c.if-not-all_ahead.ensures (search rules) _ _ _ c.combine_all-left.ensures
