@@ -1,6 +1,5 @@
 pub mod Writes
 pub mod Parts
-pub mod Signed
 pub mod RowParts
 pub mod TableRows
 pub mod SectionRows

@@ -20,7 +20,7 @@ use Rattle.tables.proofs.Change.{machine_of}
 use Rattle.listing.specs.Wrote.{Room, Wrote, Prints}
 use Rattle.listing.specs.Rows.{countsRow, Inside}
 use Rattle.listing.specs.Listed.{Lists, Listed}
-use Rattle.listing.proofs.Writes.{Are, from_start}
+use Rattle.listing.proofs.Writes.{Left, begin, from_start}
 
 -- ---- a rule of all words, at one of them
 
@@ -53,16 +53,17 @@ module _ (t : Tables) (u : Counts) (h : fits t u ≡ true) where
   pub one-machine : (m : Machine) → decode t u ≡ ok m → machine_of t u ≡ m
   one-machine m d = let z : ok (machine_of t u) ≡ ok m = sym decode_is ∙ d in cc
 
+module _ {t : Tables} {u : Counts} {o : List ℕ} (l : Lists t u o) where
   keeps : Sound t u
-  keeps = sound t u h
+  keeps = sound t u l.machine
 
   pub inside : Inside t.strings (take u.pool t.pool) u.strings
-  inside i l =
+  inside i h =
       let s = keeps in
       let n = length-take-le u.pool t.pool s.counts.pool in
       let k = length-take-le u.strings t.strings s.counts.strings in
       let a = span-inside u _ (all-at (spanFits u) (take u.strings t.strings) i s.spans (omega arith)) in
-      let e = get_or-take u.strings t.strings i 0 l in
+      let e = get_or-take u.strings t.strings i 0 h in
       rw n (subst (λ (w : ℕ). (wordSpan w).start + (wordSpan w).size ≤ u.pool) e a)
 
   pub covered : total (take u.sections t.sections) ≡ u.instrs
@@ -72,18 +73,17 @@ module _ (t : Tables) (u : Counts) (h : fits t u ≡ true) where
   unfolding held
   sections-are = read_length (take u.sections t.sections) (take u.instrs t.instrs) ∙ length-take-le u.sections t.sections keeps.counts.sections
 
-  pub listing-parts :
-      Are (countsRow u ∷ rowsN 0 (take u.numbers t.numbers) ∷ rowsT (take u.pool t.pool) 0 (map wordSpan (take u.strings t.strings)) ∷ rowsV 0 (take u.names t.names) ∷ rowsS 0 (held t.sections t.instrs u.sections u.instrs) ∷ [])
-      (listing (machine_of t u))
+  -- the whole listing is left to write
+  pub starts : Left o 0 (listing (machine_of t u)) o 0 (countsRow u ∷ rowsN 0 (take u.numbers t.numbers) ∷ rowsT (take u.pool t.pool) 0 (map wordSpan (take u.strings t.strings)) ∷ rowsV 0 (take u.names t.names) ∷ rowsS 0 (held t.sections t.instrs u.sections u.instrs) ∷ [])
   unfolding listing countsRow
-  listing-parts =
+  starts =
       let s = keeps in
       let n = length-take-le u.numbers t.numbers s.counts.numbers in
       let k : length (map wordSpan (take u.strings t.strings)) ≡ u.strings = simp length-map (length-take-le u.strings t.strings s.counts.strings) in
-      record { flat-is = rw (sections-are, n, k, append-nil) }
+      begin o 0 (record { flat-is = rw (sections-are, n, k, append-nil) })
 
-  pub room_for : (o : List ℕ) → Lists t u o → Room o 0 (listing (machine_of t u))
-  room_for o l = let x = l.room (machine_of t u) decode_is in omega arith
+  pub room_for : Room o 0 (listing (machine_of t u))
+  room_for = let h = l.room (machine_of t u) (decode_is t u l.machine) in omega arith
 
-  pub listed : (o o' : List ℕ) (r : ℕ) → Lists t u o → Wrote o o' 0 r (listing (machine_of t u)) → Listed t u o o' r
-  listed o o' r l w = record { prints = λ m d. subst (λ (x : Machine). Prints o o' r (listing x)) (one-machine m d) (from_start w (room_for o l)) }
+  pub listed : {o' : List ℕ} {r : ℕ} → Wrote o o' 0 r (listing (machine_of t u)) → Listed t u o o' r
+  listed {o'} {r} w = record { prints = λ m d. subst (λ (x : Machine). Prints o o' r (listing x)) (one-machine t u l.machine m d) (from_start w room_for) }

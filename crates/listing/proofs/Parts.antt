@@ -1,13 +1,18 @@
 -- The digits of a number and of a text, as the loops write them. Assumes nothing.
-use mathlib.Core.Path.{◌≡◌, refl, sym, ap, ◌∙◌}
+use mathlib.Core.Path.{◌≡◌, refl, sym}
 use mathlib.Core.List.{List, [], ◌∷◌, append-nil, tail}
 use Prim.Native.Nat.{ℕ, zero, suc, ◌+◌, ◌-◌, ◌/◌, ◌%◌, ◌≤◌, ◌<◌}
 use native.Mathlib.Numerals.{add-one}
 use native.Mathlib.Omega.{arith}
-use lib.IntN.{ℤ, pos, negsuc}
-use lib.ListN.{length, take, drop, set, get_or, length-drop}
-use lib.Seq.{take_all, drop-cons, drop-length, get_or-set_same, drop-set-lt, lt-length-set}
-use borrow.Author.Tests.{lt-ltb, le-ltb}
+use mathlib.Core.Bool.{Bool, true, false}
+use lib.IntN.{ℤ, pos, negsuc, nat_abs}
+use lib.Signed.{lt_z}
+use mir.Syntax.{w64}
+use mir.Val.{SFits, to_z, of_z}
+use mir.ValLaws.{to_z-of_z}
+use lib.ListN.{length, drop, set, get_or}
+use lib.Seq.{drop-cons, drop-length, get_or-set_same, drop-set-lt, lt-length-set}
+use borrow.Author.Tests.{ltb-true, lt-ltb, le-ltb}
 use Rattle.rules.specs.Listing as Listing
 use Rattle.listing.specs.Rows.{nums}
 use Rattle.listing.proofs.Writes.{Are}
@@ -27,44 +32,29 @@ digits_more : (k x : ℕ) (t : List ℕ) → 10 ≤ x → Listing.digits (suc k)
 unfolding Listing.digits
 digits_more k x t h = rw (le-ltb x 10 h, Listing.digits)
 
-pub digits-none : (x : ℕ) (t : List ℕ) → Listing.digits 0 x t ≡ t
+digits-none : (x : ℕ) (t : List ℕ) → Listing.digits 0 x t ≡ t
 unfolding Listing.digits
 digits-none x t = refl
 
-pub none-behind : (d : List ℕ) (v : ℕ) → length d ≡ 20 → Listing.digits 20 v (drop 20 d) ≡ Listing.digits 20 v []
-none-behind d v h = ap (Listing.digits 20 v) (rw (← h) (drop-length d))
-
-pub no_room : (d : List ℕ) (x k : ℕ) → k ≤ 0 → drop k d ≡ Listing.digits k x (drop k d)
-no_room d x k h = let e : k ≡ 0 = omega arith in rw e (sym (digits-none x (drop 0 d)))
-
 -- one digit more in front of those from k on
 module _ (d : List ℕ) (x : ℕ) where
-  pub digit-last : (k : ℕ) → 0 < k → k ≤ length d → x < 10 → drop (k - 1) (set d (k - 1) (48 + x % 10)) ≡ Listing.digits k x (drop k d)
-  digit-last zero h l e = absurd (omega arith)
-  digit-last (suc k) h l e =
+  pub digit_last : (k : ℕ) → 0 < k → k ≤ length d → x < 10 → Listing.digits k x (drop k d) ≡ drop (k - 1) (set d (k - 1) (48 + x % 10))
+  digit_last zero h l e = absurd (omega arith)
+  digit_last (suc k) h l e =
       let s : suc k - 1 ≡ k = omega arith in
-      rw (s, set-drop d k (48 + x % 10) (omega arith), digits_last k x (drop (suc k) d) e)
+      sym (rw (s, set-drop d k (48 + x % 10) (omega arith), digits_last k x (drop (suc k) d) e))
 
-  pub digit-more : (k : ℕ) → 0 < k → k ≤ length d → 10 ≤ x → Listing.digits (k - 1) (x / 10) (drop (k - 1) (set d (k - 1) (48 + x % 10))) ≡ Listing.digits k x (drop k d)
-  digit-more zero h l e = absurd (omega arith)
-  digit-more (suc k) h l e =
+  pub digit_more : (k : ℕ) → 0 < k → k ≤ length d → 10 ≤ x → Listing.digits k x (drop k d) ≡ Listing.digits (k - 1) (x / 10) (drop (k - 1) (set d (k - 1) (48 + x % 10)))
+  digit_more zero h l e = absurd (omega arith)
+  digit_more (suc k) h l e =
       let s : suc k - 1 ≡ k = omega arith in
-      rw (s, set-drop d k (48 + x % 10) (omega arith), digits_more k x (drop (suc k) d) e)
+      sym (rw (s, set-drop d k (48 + x % 10) (omega arith), digits_more k x (drop (suc k) d) e))
 
--- the digits from k on, as a part of the array
-module _ (d : List ℕ) (k v : ℕ) (l : length d ≡ 20) (h : drop k d ≡ Listing.digits 20 v []) where
-  pub digits-part : take (20 - k) (drop k d) ≡ Listing.digits 20 v []
-  digits-part = let e : length (drop k d) ≤ 20 - k = simp length-drop (omega arith) in take_all (20 - k) (drop k d) e ∙ h
+  pub no_digit : (k : ℕ) → k ≤ 0 → Listing.digits k x (drop k d) ≡ drop k d
+  no_digit zero h = digits-none x d
+  no_digit (suc k) h = absurd (omega arith)
 
 -- ---- a text
-
-pub small-digit : (v : ℕ) → v < 10 → 48 + v ≡ Listing.hexDigit v
-unfolding Listing.hexDigit
-small-digit v h = rw (lt-ltb v 10 h, Listing.hexDigit)
-
-pub large-digit : (v : ℕ) → 10 ≤ v → 87 + v ≡ Listing.hexDigit v
-unfolding Listing.hexDigit
-large-digit v h = rw (le-ltb v 10 h, Listing.hexDigit)
 
 -- the digits of the characters from i on
 pub hex-none : (s : List ℕ) (i : ℕ) → length s ≤ i → i ≤ length s → Are [] (Listing.hex (drop i s))
@@ -78,17 +68,23 @@ hex-more s i h p q = record { flat-is = rw (p, q, add-one, drop-cons s i 0 h, ap
 
 -- ---- the parts of a number and of a text
 
-pub num-is : (v : ℕ) → Are ((32 ∷ []) ∷ Listing.digits 20 v [] ∷ []) (Listing.nat v)
-unfolding Listing.nat
-num-is v = record { flat-is = rw append-nil }
-
-pub pos-is : (v : ℕ) → Are ((32 ∷ []) ∷ Listing.digits 20 v [] ∷ []) (Listing.int (pos v))
+below : (z : ℤ) {v : ℕ} → lt_z z (pos 0) ≡ true → v ≡ nat_abs z → Are ((32 ∷ []) ∷ (45 ∷ []) ∷ Listing.digits 20 v [] ∷ []) (Listing.int z)
 unfolding Listing.int
-pos-is v = record { flat-is = rw append-nil }
+below (pos n) h e = absurd (let l : n < 0 = ltb-true n 0 h in omega arith)
+below (negsuc n) h e = record { flat-is = rw (e, append-nil) }
 
-pub neg_is : (v : ℕ) → Are ((32 ∷ []) ∷ (45 ∷ []) ∷ Listing.digits 20 (suc v) [] ∷ []) (Listing.int (negsuc v))
+above : (z : ℤ) {v : ℕ} → lt_z z (pos 0) ≡ false → v ≡ nat_abs z → Are ((32 ∷ []) ∷ Listing.digits 20 v [] ∷ []) (Listing.int z)
 unfolding Listing.int
-neg_is v = record { flat-is = rw append-nil }
+above (pos n) h e = record { flat-is = rw (e, append-nil) }
+above (negsuc n) h e = absurd (let z : ◌≡◌ {A = Bool} true false = h in cc)
+
+-- z is read back from its bits
+module _ (z : ℤ) (f : SFits w64 z) {v : ℕ} where
+  pub neg-parts : lt_z (to_z w64 (of_z w64 z)) (pos 0) ≡ true → v ≡ nat_abs (to_z w64 (of_z w64 z)) → Are ((32 ∷ []) ∷ (45 ∷ []) ∷ Listing.digits 20 v [] ∷ []) (Listing.int z)
+  neg-parts h e = below z (rw (to_z-of_z w64 z f) at h) (rw (to_z-of_z w64 z f) at e)
+
+  pub pos-parts : lt_z (to_z w64 (of_z w64 z)) (pos 0) ≡ false → v ≡ nat_abs (to_z w64 (of_z w64 z)) → Are ((32 ∷ []) ∷ Listing.digits 20 v [] ∷ []) (Listing.int z)
+  pos-parts h e = above z (rw (to_z-of_z w64 z f) at h) (rw (to_z-of_z w64 z f) at e)
 
 pub empty-text : (s : List ℕ) → length s ≡ 0 → Are ((32 ∷ []) ∷ (45 ∷ []) ∷ []) (Listing.hexText s)
 unfolding Listing.hexText

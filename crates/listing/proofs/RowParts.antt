@@ -1,57 +1,34 @@
--- The parts of a row: its letter, its fields, a line feed; and the rows of numbers. Assumes nothing.
+-- The rows of numbers. Assumes nothing.
 use mathlib.Core.Path.{◌≡◌, refl, ap, ◌∙◌}
 use mathlib.Core.Bool.{Bool, true, false}
-use mathlib.Core.List.{List, [], ◌∷◌, ◌++◌, append_assoc, append-nil}
+use mathlib.Core.List.{[], ◌∷◌, ◌++◌, append_assoc, append-nil}
 use Prim.Native.Nat.{ℕ, ◌<◌}
 use native.Mathlib.Omega.{arith}
 use lib.Dec.{eqb}
-use lib.IntN.{ℤ}
-use lib.ListN.{length}
-use mir.Syntax.{w64}
-use mir.Val.{SFits, to_z, of_z}
-use mir.ValLaws.{to_z-of_z}
 use borrow.Author.Tests.{eqb-true, eqb-false}
 use Rattle.rules.specs.Bits.{isOne}
 use Rattle.rules.specs.Constants.{mark}
 use Rattle.rules.specs.Word.{Run, wordIns, wordRun}
 use Rattle.rules.specs.Tables.{Counts, flag, kind_of, target_of, successOf}
-use Rattle.rules.specs.Listing.{nat, int, hexText, row, refusal}
+use Rattle.rules.specs.Listing.{nat, row, refusal}
 use Rattle.laws.specs.Words.{run_small}
-use Rattle.listing.specs.Rows.{nums, countsRow, textRow, instrRow, sectionRow}
-use Rattle.listing.proofs.Writes.{Are}
-
--- ---- any row, and the two that are not of numbers alone
-
-pub row-parts : (l : ℕ) (a : List ℕ) → Are ((l ∷ []) ∷ a ∷ (10 ∷ []) ∷ []) (row l a)
-unfolding row
-row-parts l a = record { flat-is = refl }
-
--- a signed number goes by its bits
-pub number-parts : (i : ℕ) (z : ℤ) → SFits w64 z → Are ((78 ∷ []) ∷ nat i ∷ int (to_z w64 (of_z w64 z)) ∷ (10 ∷ []) ∷ []) (row 78 (nat i ++ int z))
-unfolding row
-number-parts i z f = record { flat-is = rw (to_z-of_z w64 z f) (simp append_assoc) }
-
-pub text-parts : (i : ℕ) (s : List ℕ) → Are ((84 ∷ []) ∷ nat i ∷ nat (length s) ∷ hexText s ∷ (10 ∷ []) ∷ []) (textRow i s)
-unfolding row textRow
-text-parts i s = record { flat-is = simp append_assoc }
-
--- ---- rows of numbers
+use Rattle.listing.specs.Rows.{nums, countsRow, instrRow, sectionRow}
 
 pub counts-row : (u : Counts) → row 77 (nums (u.lines ∷ u.sections ∷ u.numbers ∷ u.strings ∷ u.values ∷ [])) ≡ countsRow u
 unfolding countsRow nums
 counts-row u = ap (row 77) (simp (append_assoc, append-nil))
 
-pub name-row : (i v : ℕ) → row 86 (nums (i ∷ v ∷ [])) ≡ row 86 (nat i ++ nat v)
+pub name_row : (i v : ℕ) → row 86 (nums (i ∷ v ∷ [])) ≡ row 86 (nat i ++ nat v)
 unfolding nums
-name-row i v = ap (row 86) (simp append-nil)
+name_row i v = ap (row 86) (simp append-nil)
 
-pub refusal-row : (n : ℕ) → row 82 (nums (n ∷ [])) ≡ refusal n
+pub refusal_row : (n : ℕ) → row 82 (nums (n ∷ [])) ≡ refusal n
 unfolding refusal nums
-refusal-row n = ap (row 82) (append-nil (nat n))
+refusal_row n = ap (row 82) (append-nil (nat n))
 
-pub instr-row : (w : ℕ) {o a b c : ℕ} → o ≡ (wordIns w).op → a ≡ (wordIns w).fst → b ≡ (wordIns w).snd → c ≡ (wordIns w).thd → row 73 (nums (o ∷ a ∷ b ∷ c ∷ [])) ≡ instrRow w
+pub instr_row : (w : ℕ) {o a b c : ℕ} → o ≡ (wordIns w).op → a ≡ (wordIns w).fst → b ≡ (wordIns w).snd → c ≡ (wordIns w).thd → row 73 (nums (o ∷ a ∷ b ∷ c ∷ [])) ≡ instrRow w
 unfolding instrRow nums
-instr-row w p q r s = rw (p, q, r, s) (ap (row 73) (simp (append_assoc, append-nil)))
+instr_row w p q r s = rw (p, q, r, s) (ap (row 73) (simp (append_assoc, append-nil)))
 
 -- ---- a section's successor says its kind and its target
 
@@ -71,10 +48,10 @@ module _ (r : Run) (low : r.kind < 2) where
   success-says : (r.kind ≡ kind_of (successOf r)) × (r.target ≡ target_of (successOf r))
   success-says = by_kind _ refl _ refl
 
-pub section-row : (i w : ℕ) {l : Bool} {s k t n : ℕ} → s ≡ flag l → l ≡ isOne (wordRun w).lineStart → k ≡ (wordRun w).kind → t ≡ (wordRun w).target → n ≡ (wordRun w).count →
+pub section_row : (i w : ℕ) {l : Bool} {s k t n : ℕ} → s ≡ flag l → l ≡ isOne (wordRun w).lineStart → k ≡ (wordRun w).kind → t ≡ (wordRun w).target → n ≡ (wordRun w).count →
     row 83 (nums (i ∷ s ∷ k ∷ t ∷ n ∷ [])) ≡ sectionRow i w
 unfolding sectionRow nums
-section-row i w {l} {s} {k} {t} {n} x y p q r =
+section_row i w {l} {s} {k} {t} {n} x y p q r =
     let z = success-says (wordRun w) (run_small w).1.0 in
     let p' : k ≡ kind_of (successOf (wordRun w)) = p ∙ z.0 in
     let q' : t ≡ target_of (successOf (wordRun w)) = q ∙ z.1 in

@@ -1,16 +1,16 @@
 -- Bytes written one behind the other: parts that follow each other, and a loop that writes what is left. Assumes nothing.
 use mathlib.Core.Path.{◌≡◌, refl, sym, ap, ◌∙◌, subst}
-use mathlib.Core.List.{List, [], ◌∷◌, ◌++◌, append_assoc, append-nil}
-use Prim.Native.Nat.{ℕ, suc, ◌+◌, ◌≤◌, ◌<◌}
+use mathlib.Core.List.{List, [], ◌∷◌, ◌++◌, append_assoc}
+use Prim.Native.Nat.{ℕ, ◌+◌, ◌<◌}
 use native.Mathlib.Nat.{zero-add}
 use native.Mathlib.Numerals.{add-one}
 use native.Mathlib.Omega.{arith}
 use lib.ListN.{length, take, set, get_or, length-append}
-use lib.Seq.{sets, sets-eq, length-sets, take-suc, take_all}
+use lib.Seq.{sets, sets-eq, length-sets, take-suc}
 use Rattle.laws.specs.Stores.{sets-sets}
 use Rattle.listing.specs.Wrote.{Room, Wrote, Prints}
 
-pub one : (o : List ℕ) (a b : ℕ) → Wrote o (set o a b) a (a + 1) (b ∷ [])
+one : (o : List ℕ) (a b : ℕ) → Wrote o (set o a b) a (a + 1) (b ∷ [])
 one o a b = record { text = refl; stop = refl }
 
 pub seq : {o p q : List ℕ} {a b c : ℕ} {xs ys : List ℕ} → Wrote o p a b xs → Wrote p q b c ys → Wrote o q a c (xs ++ ys)
@@ -19,9 +19,6 @@ seq {o} {p} {q} {a} {b} {c} {xs} {ys} v w =
 
 pub as_is : {o p : List ℕ} {a e : ℕ} {xs ys : List ℕ} → Wrote o p a e xs → xs ≡ ys → Wrote o p a e ys
 as_is {o} {p} {a} {e} w h = subst (Wrote o p a e) h w
-
-pub kept : {o p : List ℕ} {a e : ℕ} {xs : List ℕ} → Wrote o p a e xs → length p ≡ length o
-kept {o} {p} {a} {e} {xs} w = ap length w.text ∙ length-sets o a xs
 
 -- written from the first byte on
 pub from_start : {o p : List ℕ} {r : ℕ} {bs : List ℕ} → Wrote o p 0 r bs → Room o 0 bs → Prints o p r bs
@@ -35,7 +32,7 @@ abbrev pub flat : List (List ℕ) → List ℕ
 flat [] = []
 flat (x ∷ xs) = x ++ flat xs
 
-pub flat_append : (xs ys : List (List ℕ)) → flat (xs ++ ys) ≡ flat xs ++ flat ys
+flat_append : (xs ys : List (List ℕ)) → flat (xs ++ ys) ≡ flat xs ++ flat ys
 flat_append [] ys = refl
 flat_append (x ∷ xs) ys = rw (flat_append xs ys, append_assoc)
 
@@ -47,9 +44,6 @@ pub record Left (o : List ℕ) (a : ℕ) (all o' : List ℕ) (e : ℕ) (left : L
 -- the parts xs are x, one behind the other
 pub record Are (xs : List (List ℕ)) (x : List ℕ) : Type 0 where
   pub flat-is : flat xs ≡ x
-
-pub only : (x : List ℕ) → Are (x ∷ []) x
-only x = record { flat-is = append-nil x }
 
 pub begin : {all : List ℕ} {xs : List (List ℕ)} (o : List ℕ) (a : ℕ) → Are xs all → Left o a all o a xs
 begin o a h = record { text = rw h.flat-is; stop = rw h.flat-is }
@@ -78,13 +72,7 @@ module _ {o o' : List ℕ} {a e : ℕ} {all : List ℕ} where
 
 -- ---- bytes copied one by one
 
-pub none_yet : (o : List ℕ) (a : ℕ) (s : List ℕ) → Wrote o o a (a + 0) (take 0 s)
-none_yet o a s = record { text = refl; stop = refl }
-
 pub one_more : {o p : List ℕ} {a : ℕ} (s : List ℕ) (i : ℕ) → i < length s → Wrote o p a (a + i) (take i s) → Wrote o (set p (a + i) (get_or s i 0)) a (a + (i + 1)) (take (i + 1) s)
 one_more {o} {p} {a} s i h w =
     let e : a + i + 1 ≡ a + (i + 1) = omega arith in
     rw (add-one i, take-suc s i 0 h) (rw (e, add-one i) at (seq w (one p (a + i) (get_or s i 0))))
-
-pub all_there : {o p : List ℕ} {a e : ℕ} (s : List ℕ) (i : ℕ) → length s ≤ i → Wrote o p a e (take i s) → Wrote o p a e s
-all_there s i h w = as_is w (take_all i s h)

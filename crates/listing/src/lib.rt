@@ -1,4 +1,6 @@
 // What finlist prints, as bytes in a lent slice: a machine's rows, or a refusal.
+#![tactic(auto)]
+
 pub mod listing;
 mod put;
 pub mod row;

@@ -40,6 +40,7 @@ fn put_bytes(out: &mut [u8], at: usize, s: &[u8]) -> usize
 }
 
 // The digits of a number at the end of d; answers where they begin.
+#[tactic(auto, using(crate::proofs::Parts::digit_last, crate::proofs::Parts::digit_more, crate::proofs::Parts::no_digit))]
 fn digits(d: &mut [u8], v: usize) -> usize
     requires { length d.old ≡ 20 }
     ensures { (result ≤ 20) × (drop result d.new ≡ Listing.digits 20 v []) }
@@ -66,6 +67,7 @@ fn put_digits(out: &mut [u8], at: usize, v: usize) -> usize
     put_bytes(out, at, &d[k..])
 }
 
+#[tactic(auto, using(crate::proofs::Writes::seq), unfolding(rules::specs::Listing::nat))]
 pub(crate) fn put_num(out: &mut [u8], at: usize, v: usize) -> usize
     requires { Room out.old at (Listing.nat v) }
     ensures { Wrote out.old out.new at result (Listing.nat v) }
@@ -112,6 +114,7 @@ pub(crate) fn put_int(out: &mut [u8], at: usize, z: i64) -> usize
     put_digits(out, a, v)
 }
 
+#[tactic(auto, unfolding(rules::specs::Listing::hexDigit))]
 fn hex_digit(v: u8) -> u8
     requires { v ≤ 15 }
     ensures { result ≡ Listing.hexDigit v }

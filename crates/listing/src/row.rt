@@ -15,6 +15,7 @@ use words::section::SectionWord;
 const LINE_FEED: u8 = 10;
 
 // A letter and numbers.
+#[tactic(auto, unfolding(rules::specs::Listing::row))]
 fn row(out: &mut [u8], at: usize, letter: u8, fields: &[usize]) -> usize
     requires { Room out.old at (Listing.row letter (nums fields.now)) }
     ensures { Wrote out.old out.new at result (Listing.row letter (nums fields.now)) }
@@ -34,6 +35,7 @@ pub(crate) fn row_m(out: &mut [u8], at: usize, c: Counts) -> usize
 }
 
 // N register thousandths
+#[tactic(auto, unfolding(rules::specs::Listing::row))]
 pub(crate) fn row_n(out: &mut [u8], at: usize, i: usize, z: i64) -> usize
     requires { Room out.old at (Listing.row 78 (Listing.nat i ++ Listing.int z)) }
     ensures { Wrote out.old out.new at result (Listing.row 78 (Listing.nat i ++ Listing.int z)) }
@@ -45,6 +47,7 @@ pub(crate) fn row_n(out: &mut [u8], at: usize, i: usize, z: i64) -> usize
 }
 
 // T register length hex
+#[tactic(auto, unfolding(rules::specs::Listing::row, crate::specs::Rows::textRow))]
 pub(crate) fn row_t(out: &mut [u8], at: usize, i: usize, s: &[u8]) -> usize
     requires { Room out.old at (textRow i s.now) }
     ensures { Wrote out.old out.new at result (textRow i s.now) }
@@ -57,6 +60,7 @@ pub(crate) fn row_t(out: &mut [u8], at: usize, i: usize, s: &[u8]) -> usize
 }
 
 // V name register
+#[tactic(auto, using(crate::proofs::RowParts::name_row))]
 pub(crate) fn row_v(out: &mut [u8], at: usize, i: usize, v: u16) -> usize
     requires { Room out.old at (Listing.row 86 (Listing.nat i ++ Listing.nat v)) }
     ensures { Wrote out.old out.new at result (Listing.row 86 (Listing.nat i ++ Listing.nat v)) }
@@ -66,6 +70,7 @@ pub(crate) fn row_v(out: &mut [u8], at: usize, i: usize, v: u16) -> usize
 }
 
 // I opcode and three fields
+#[tactic(auto, using(crate::proofs::RowParts::instr_row))]
 pub(crate) fn row_i(out: &mut [u8], at: usize, w: Instruction) -> usize
     requires { Room out.old at (instrRow w.0) }
     ensures { Wrote out.old out.new at result (instrRow w.0) }
@@ -78,6 +83,7 @@ pub(crate) fn row_i(out: &mut [u8], at: usize, w: Instruction) -> usize
     row(out, at, b'I', &fields)
 }
 
+#[tactic(auto, unfolding(rules::specs::Tables::flag))]
 fn flag(b: bool) -> usize
     ensures { result ≡ flagS b }
 {
@@ -85,6 +91,7 @@ fn flag(b: bool) -> usize
 }
 
 // S section linestart kind target count
+#[tactic(auto, using(crate::proofs::RowParts::section_row))]
 pub(crate) fn row_s(out: &mut [u8], at: usize, i: usize, w: SectionWord) -> usize
     requires { Room out.old at (sectionRow i w.0) }
     ensures { Wrote out.old out.new at result (sectionRow i w.0) }
@@ -98,6 +105,7 @@ pub(crate) fn row_s(out: &mut [u8], at: usize, i: usize, w: SectionWord) -> usiz
 }
 
 // R and the number of a refusal
+#[tactic(auto, using(crate::proofs::RowParts::refusal_row))]
 pub fn row_r(out: &mut [u8], at: usize, n: u64) -> usize
     requires { Room out.old at (Listing.refusal n) }
     ensures { Wrote out.old out.new at result (Listing.refusal n) }

@@ -1,0 +1,11 @@
+-- The first i bytes are written.
+use Rattle.std.proofs.Common.{◌+◌, ◌-◌, ◌≤◌, length, take}
+use Rattle.listing.specs.Wrote.{Wrote}
+use Rattle.listing.proofs.put.put_bytes.Given as goal
+
+abbrev pub invariant-loop-i : goal.invariant-loop-i
+invariant-loop-i l =
+    (l.i ≤ length l.s) × Wrote l.fn.out l.out l.at (l.at + l.i) (take l.i l.s)
+
+abbrev pub decreases-loop-i : goal.decreases-loop-i
+decreases-loop-i l = length l.s - l.i

@@ -1,0 +1,11 @@
+-- The row is that of the counts.
+use Rattle.tables.specs.Lent.{countsTold}
+use Rattle.listing.proofs.Writes.{as_is}
+use Rattle.listing.proofs.RowParts.{counts-row}
+use Rattle.listing.proofs.row.row_m.Goals as goal
+
+pub row-requires : goal.row-requires
+row-requires c = rw (counts-row (countsTold c.args.c)) c.requires
+
+pub returns : goal.returns
+returns c = as_is c.row.ensures (counts-row (countsTold c.args.c))
