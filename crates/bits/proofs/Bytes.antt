@@ -8,7 +8,7 @@ use native.Mathlib.Nat.{add-mul, one-mul, lt_of_lt_of_le}
 use lib.Bits.{bit_and, and_mask}
 use lib.ListN.{get_or}
 use lib.Dec.{leb}
-use lib.Pow.{pow-add, pow_mono, shr-shr, mod-pow-add, shl_exact, ones_lt, high, low, field, shr_mod}
+use lib.Pow.{pow-add, pow_mono, shr-shr, mod-pow-add, shl_exact, high, low, field, shr_mod}
 use borrow.Author.Tests.{leb-true, leb-false}
 use Rattle.rules.specs.Constants.{byteBits}
 use Rattle.rules.specs.Bits.{bit, spelled}
@@ -62,9 +62,6 @@ power n h = rw (shl_exact 1 n 64 one (omega arith)) (one-mul (2 ^ n))
   where
     one : 1 < 2 ^ 1
     one = omega arith
-
-pub some-ones : (n : ℕ) → n < 64 → 1 ≤ 1 * 2 ^ n % 2 ^ 64
-some-ones n h = rw (power n h) (omega (arith, ones_lt n))
 
 -- ---- a window of two bytes
 

@@ -4,7 +4,6 @@ use mathlib.Core.List.{List, [], ◌∷◌}
 use mathlib.Core.Bool.{Bool, true, false}
 use Prim.Native.Nat.{ℕ, zero, suc, ◌+◌, ◌*◌, ◌^◌, ◌<◌, ◌≤◌}
 use native.Mathlib.Omega.{arith}
-use native.Mathlib.Numerals.{add-one}
 use borrow.Author.Tests.{lt-ltb, le-ltb, leb-true, leb-false, ltb-true, ltb-false}
 use lib.Dec.{ltb, leb}
 use lib.ListN.{length, get_elem?}
@@ -13,9 +12,7 @@ use Rattle.rules.specs.Constants.{mostNodes, byteBits, charBits, nameBits}
 use Rattle.rules.specs.Refusal.{endsInField, tooDeep, tooManyNodes, unassigned, unknownName}
 use Rattle.rules.specs.Bits.{Res, refused, ok, field, spelled}
 use Rattle.rules.specs.Parse.{Reader, At, succeed, refuse, demand, begin, bits, many, operator, name_of, ◌>>=◌}
-use Rattle.bits.specs.Reads.{Gives, Fine, Moved, Took, Takes, Passed, Passes, Ends, Skips, Skipped, at, belowR, beginR, fieldRes, charsAt}
-use Rattle.bits.specs.declared.Field.{Field}
-use Rattle.bits.specs.declared.Field.TheVariants.{Value, Short}
+use Rattle.bits.specs.Reads.{Gives, Fine, Took, Takes, Passed, Passes, Ends, Skips, Skipped, at, belowR, beginR, charsAt}
 use Rattle.bits.specs.declared.Cursor.{Cursor}
 use Rattle.bits.specs.declared.Step.{Step}
 use Rattle.bits.specs.declared.Step.TheVariants.{Next, Refused}
@@ -69,15 +66,11 @@ pub bits_out : (s : List ℕ) (w : ℕ) (c : At) → refused endsInField ≡ fie
 unfolding bits
 bits_out s w c e = record { is = rw (← e, bits) }
 
-pub taken : (s : List ℕ) (w : ℕ) (c : Cursor) (v p : ℕ) (r : Field) → Fine s c → r ≡ Value v p → fieldRes r ≡ field s w c.pos
+pub taken : (s : List ℕ) (w : ℕ) (c : Cursor) (v p : ℕ) → Fine s c → ok (v, p) ≡ field s w c.pos
     → Took (bits w) s c 0 0 (2 ^ w) v (record { pos = p; nodes = c.nodes; statements = c.statements; sections = c.sections; strings = c.strings; chars = c.chars })
-taken s w c v p r f t e =
-    let k : ok (v, p) ≡ field s w c.pos = rw t at e in
-    let i = inside s w c.pos v p k in
-    record { reads = bits_in s w (at c) v p k; small = i.small; moved = omega arith; fine = omega arith }
-
-pub short : (s : List ℕ) (w : ℕ) (c : At) (r : Field) → r ≡ Short → fieldRes r ≡ field s w c.pos → Gives (bits w) s c (refused endsInField)
-short s w c r t e = let k : refused endsInField ≡ field s w c.pos = rw t at e in bits_out s w c k
+taken s w c v p f e =
+    let i = inside s w c.pos v p e in
+    record { reads = bits_in s w (at c) v p e; small = i.small; moved = omega arith; fine = omega arith }
 
 -- a node that begins, and one too many
 pub begins : (s : List ℕ) (c : At) → c.nodes < mostNodes → Gives begin s c (ok (tt, record { pos = c.pos; nodes = suc c.nodes }))

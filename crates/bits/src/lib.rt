@@ -2,6 +2,8 @@
 //
 // Each function is shown equal to the reader of the same name in `rules`, or to a definition of specs/Reads over those readers.
 // A caller owes a cursor within the file and the limits (`Fine`), which the first cursor is and each step hands on.
+#![tactic(auto)]
+
 pub mod limits;
 pub mod refusal;
 
