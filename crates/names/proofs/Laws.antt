@@ -7,7 +7,6 @@ use native.Mathlib.Omega.{arith}
 use native.Mathlib.Numerals.{add-one, sub-one}
 use borrow.Author.Tests.{eq-eqb, ne_eqb, eqb-true, eqb-false}
 use lib.Dec.{eqb}
-use lib.ListN.{length}
 use Rattle.rules.specs.Constants.{flagBits, nameLengthBits, charBits}
 use Rattle.rules.specs.Refusal.{equalNames}
 use Rattle.rules.specs.Bits.{Res, refused, ok, spelled, isOne}
@@ -17,7 +16,7 @@ use Rattle.bits.specs.Reads.{Gives, Fine, Took, Skips, at, charsAt}
 use Rattle.bits.specs.declared.Step.{Step}
 use Rattle.bits.specs.declared.Step.TheVariants.{Next, Refused}
 use Rattle.bits.specs.declared.Cursor.{Cursor}
-use Rattle.names.specs.Names.{headerBits, charsOf, name_at, nextName, names_at, end_at, Named, NamedAll, NamesMid, NamesOne, NamesAll}
+use Rattle.names.specs.Names.{headerBits, charsOf, name_at, nextName, names_at, end_at, Named, NamedAll, NamesMid, NamesOne}
 use Rattle.bits.proofs.Bits.{spelled-lt}
 use Rattle.bits.proofs.Bytes.{spelled-append}
 use Rattle.bits.proofs.Gives.{then, stop, done, passes, fails, spells, after}
@@ -210,16 +209,3 @@ one-built b x (Refused k) u = record { here = then _ b.reads (then _ x.reads (st
 
 pub next-in : (s : List ℕ) (k q : ℕ) → 0 < k → nextName s q ≤ end_at s k q
 next-in s k q h = let e = end_more s k q h in let g = end_ge s (k - 1) (nextName s q) in omega arith
-
-pub one_ok : {s : List ℕ} {c d : Cursor} {v : ℕ} {st : Step} → NamesOne s c st → st ≡ Next v d → Named s c v d
-one_ok h e = rw e at h.here
-
-pub one-no : {s : List ℕ} {c : Cursor} {x : ℕ} {st : Step} → NamesOne s c st → st ≡ Refused x → Gives name s (at c) (refused x)
-one-no h e = rw e at h.here
-
--- opening the answer
-pub named_ok : {n : ℕ} {s : List ℕ} {c d : Cursor} {v : ℕ} {st : Step} → NamesAll n s c st → st ≡ Next v d → NamedAll n s c v d
-named_ok h e = rw e at h.here
-
-pub named-no : {n : ℕ} {s : List ℕ} {c : Cursor} {x : ℕ} {st : Step} → NamesAll n s c st → st ≡ Refused x → Gives (names n []) s (at c) (refused x)
-named-no h e = rw e at h.here

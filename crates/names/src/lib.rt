@@ -1,6 +1,8 @@
 // The names of a file: refused where two are the same. They are compared where they stand, so that no table of them is needed.
 //
 // `read_names` is shown equal to `names n []` of `rules`. A caller owes a cursor within the file and the limits (`Fine`).
+#![tactic(auto)]
+
 ghost use Rattle.std.specs.Prelude.{◌≡◌, ◌≤◌, ◌<◌, ◌*◌, ◌+◌, length};
 ghost use Rattle.rules.specs.Constants.{mostBytes, byteBits};
 ghost use Rattle.rules.specs.Parse.{same_name, known as knownS};
@@ -24,6 +26,7 @@ pub fn after(s: &[u8], q: usize) -> usize
 }
 
 // Is the name at q global?
+#[tactic(auto, unfolding(crate::specs::Names::name_at, rules::specs::Bits::isOne))]
 pub fn is_global(s: &[u8], q: usize) -> bool
     requires { (length s.now ≤ mostBytes) × (q + headerBits ≤ byteBits * length s.now) }
     ensures { result ≡ (name_at s.now q).isGlobal }
@@ -32,6 +35,7 @@ pub fn is_global(s: &[u8], q: usize) -> bool
 }
 
 // Are the names at p and q the same? Flag and length first, then characters.
+#[tactic(auto, unfolding(crate::specs::Names::nextName, crate::specs::Names::charsOf))]
 fn same(s: &[u8], p: usize, q: usize) -> bool
     requires { (length s.now ≤ mostBytes) × ((nextName s.now p ≤ byteBits * length s.now) × (nextName s.now q ≤ byteBits * length s.now)) }
     ensures { result ≡ same_name (name_at s.now p) (name_at s.now q) }

@@ -1,0 +1,33 @@
+-- Flag and length decide together, then each character.
+use Rattle.std.proofs.Common.{◌≡◌, arith}
+use mathlib.Core.Path.{sym, ◌∙◌}
+use Rattle.rules.specs.Bits.{spelled}
+use Rattle.names.specs.Names.{headerBits, nextName, charsOf}
+use Rattle.bits.proofs.Bits.{spelled-lt}
+use Rattle.names.proofs.Laws.{same_length, same_first, differ-first, chars-more, chars-differ, chars-end}
+use Rattle.names.proofs.same.Goals as goal
+
+pub returns-then-peek : goal.returns-then-peek
+returns-then-peek c = differ-first _ _ _ (λ e. c.if-peek.true (c.peek.ensures ∙ e ∙ sym c.peek-2.ensures))
+
+pub overflow_add-left : goal.overflow_add-left
+overflow_add-left c = omega (arith, spelled-lt)
+
+pub loop-left-init : goal.loop-left-init
+unfolding nextName charsOf
+loop-left-init c =
+    let e : spelled c.args.s.now headerBits c.args.p ≡ spelled c.args.s.now headerBits c.args.q = sym c.peek.ensures ∙ c.if-peek.false ∙ c.peek-2.ensures in
+    let f = same_length c.args.s.now c.args.p c.args.q e in
+    (rw c.peek-left.ensures (same_first c.args.s.now c.args.p c.args.q e), (omega arith, omega arith))
+
+pub returns-then-peek-2 : goal.returns-then-peek-2
+returns-then-peek-2 c =
+    chars-differ _ _ _ _ c.loop-left-test.true (λ e. c.if-peek-2.true (c.peek-in-loop-left.ensures ∙ e ∙ sym c.peek-in-loop-left-2.ensures)) ∙ c.loop-left.invariant.0
+
+pub loop-left-preserved : goal.loop-left-preserved
+loop-left-preserved c =
+    let l = c.loop-left in
+    (chars-more _ l.left l.a l.b c.loop-left-test.true (sym c.peek-in-loop-left.ensures ∙ c.if-peek-2.false ∙ c.peek-in-loop-left-2.ensures) ∙ l.invariant.0, (omega arith, omega arith))
+
+pub returns : goal.returns
+returns c = chars-end _ _ _ _ c.loop-left-test.false ∙ c.loop-left.invariant.0
