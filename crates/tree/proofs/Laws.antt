@@ -11,18 +11,16 @@ use Rattle.rules.specs.Constants.{mostBytes, mostDepth, form, head_bits, nameBit
 use Rattle.rules.specs.Refusal.{otherForm, zeroLines, leftOver, tooLong}
 use Rattle.rules.specs.Bits.{Res, refused, ok}
 use Rattle.rules.specs.Tree.{Block, Tree, ofLines, both, emptyTally}
-use Rattle.rules.specs.Parse.{Reader, At, bits, names, many, left, fill, lineBlock, body, file, parse, demand, ◌>>=◌}
+use Rattle.rules.specs.Parse.{Reader, At, bits, many, left, fill, lineBlock, body, file, parse, demand, ◌>>=◌}
 use Rattle.rules.specs.Operations.{size, size_of}
 use Rattle.bits.specs.Reads.{Gives, Fine, Took, at}
 use Rattle.bits.specs.declared.Cursor.{Cursor}
-use Rattle.bits.specs.declared.Step.{Step}
-use Rattle.bits.specs.declared.Step.TheVariants.{Next, Refused}
 use Rattle.names.specs.Names.{firstName, names_at, end_at, NamedAll}
 use Rattle.nodes.specs.Holds.{HoldsB}
 use Rattle.nodes.specs.Builds.{listR, Built, heldB, countB}
 use Rattle.tree.specs.declared.SizeAnswer.{SizeAnswer}
 use Rattle.tree.specs.declared.SizeAnswer.TheVariants.{Sized, Refused as No}
-use Rattle.tree.specs.Files.{headValues, Ended, EndRead, lineWord, HoldsL, no_line, a-line, Lined, LinesMid, LinesRead, Filed, FileRead, Treed, TreeRead, start, origin, widths, Headed, HeadRead, Placed, sizeRes}
+use Rattle.tree.specs.Files.{headValues, Ended, lineWord, HoldsL, no_line, a-line, Lined, LinesMid, Filed, Treed, TreeRead, start, origin, widths, Headed, Placed, sizeRes}
 use Rattle.bits.proofs.Bits.{field_in}
 use Rattle.bits.proofs.Gives.{then, stop, done, passes, fails, bits_in, unique, never, after}
 use Rattle.nodes.proofs.Exprs.{Same}
@@ -52,12 +50,6 @@ module _ {s : List ℕ} {c d : Cursor} {w v : ℕ} (l : byteBits * length s - c.
 -- the bits that are left are there
 pub fill-there : {s : List ℕ} {c : Cursor} {w x : ℕ} → byteBits * length s - c.pos ≡ w → Fine s c → Gives (bits w) s (at c) (refused x) → ⊥
 fill-there {s = s} {c = c} {w = w} l f g = never (unique (bits_in s w (at c) _ _ (sym (field_in s w c.pos (omega arith)))) g)
-
-pub ended : {s : List ℕ} {c d : Cursor} {v : ℕ} {st : Step} → EndRead s c st → st ≡ Next v d → Ended s c v d
-ended h e = rw e at h.here
-
-pub not-ended : {s : List ℕ} {c : Cursor} {x : ℕ} {st : Step} → EndRead s c st → st ≡ Refused x → Gives fill s (at c) (refused x)
-not-ended h e = rw e at h.here
 
 -- ---- lines
 
@@ -139,12 +131,6 @@ module _ {n total : ℕ} {s t ls : List ℕ} {c d : Cursor} {k : ℕ} (m : Lines
         many-lines = m.many-lines [] ∙ omega arith;
         fine = m.fine;
       }
-
-pub lined : {n total : ℕ} {s t ls : List ℕ} {c d : Cursor} {v : ℕ} {st : Step} → LinesRead n total s t ls c st → st ≡ Next v d → Lined n total s t ls c v d
-lined h e = rw e at h.here
-
-pub not-lined : {n total : ℕ} {s t ls : List ℕ} {c : Cursor} {x : ℕ} {st : Step} → LinesRead n total s t ls c st → st ≡ Refused x → Gives (many total (lineBlock n)) s (at c) (refused x)
-not-lined h e = rw e at h.here
 
 -- ---- the file
 
@@ -257,18 +243,6 @@ treed {s = s} {v = v} {c = c} f h =
     let a : v % headValues ≡ length f.val.lines = omega arith in
     let b : v / headValues ≡ length f.val.names = omega arith in
     record { val = f.val; parses = parse-ok s f.val (at c) h f.reads; holds = f.holds; names = f.names; size_is = rw (a, b, f.statements, f.nodes, f.strings, f.chars); within = f.within }
-
-pub head_ok : {s : List ℕ} {v : ℕ} {c : Cursor} {st : Step} → HeadRead s st → st ≡ Next v c → Headed s v c
-head_ok h e = rw e at h.here
-
-pub head-no : {s : List ℕ} {x : ℕ} {st : Step} → HeadRead s st → st ≡ Refused x → Gives file s start (refused x)
-head-no h e = rw e at h.here
-
-pub file-ok : {s t ls : List ℕ} {v : ℕ} {c : Cursor} {st : Step} → FileRead s t ls st → st ≡ Next v c → Filed s t ls v c
-file-ok h e = rw e at h.here
-
-pub file-no : {s t ls : List ℕ} {x : ℕ} {st : Step} → FileRead s t ls st → st ≡ Refused x → Gives file s start (refused x)
-file-no h e = rw e at h.here
 
 pub size-from : {s t ls : List ℕ} {r : SizeAnswer} → TreeRead s t ls r → sizeRes r ≡ size s
 unfolding size

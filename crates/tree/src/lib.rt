@@ -2,6 +2,8 @@
 //
 // `size` is shown equal to `size` of `rules`, and asks nothing. `read_tree` refuses as `parse` does, or the tables hold the tree
 // that `parse` reads; it asks for a line table of 255 words, and for a node table of 2,048 or of as many as the file can have.
+#![tactic(auto)]
+
 ghost use Rattle.std.specs.Prelude.{◌≡◌, ◌≤◌, ◌<◌, ◌*◌, ◌+◌, length};
 ghost use Rattle.rules.specs.Constants.{mostBytes, mostLines, mostDepth};
 ghost use Rattle.rules.specs.Operations.{size as sizeS};
