@@ -2,22 +2,21 @@
 //
 // What is printed is `printed::finlist`'s answer, whole; the program only reads and writes. One byte more than the longest file is read, so that
 // a longer one is seen to be too long.
-use libc::{STDIN_FILENO, STDOUT_FILENO};
+#![tactic(auto)]
 
-const ROOM: usize = printed::MOST_BYTES + 1;
+use std::io;
+use std::io::{Read, Write};
+
+const ROOM: u64 = printed::MOST_BYTES as u64 + 1;
 
 fn space() -> [u8; printed::MOST_PRINTED] {
     [0u8; printed::MOST_PRINTED]
 }
 
-fn print(input: &[u8]) {
+fn main(rt: HostRuntime) -> io::Result<()> {
+    let mut file = Vec::new(rt.alloc());
+    rt.reader().take(ROOM).read_to_end(&mut file)?;
     let mut out = space();
-    let n = printed::finlist(input, &mut out);
-    io::write_all(STDOUT_FILENO, &out[..n]);
-}
-
-fn main() {
-    let mut buf = [0u8; ROOM];
-    let n = io::read_full(STDIN_FILENO, &mut buf);
-    print(&buf[..n]);
+    let n = printed::finlist(&file, &mut out);
+    io::writer(&rt).write_all(&out[..n])
 }
