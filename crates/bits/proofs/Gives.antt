@@ -12,7 +12,7 @@ use Rattle.rules.specs.Constants.{mostNodes, byteBits, charBits, nameBits}
 use Rattle.rules.specs.Refusal.{endsInField, tooDeep, tooManyNodes, unassigned, unknownName}
 use Rattle.rules.specs.Bits.{Res, refused, ok, field, spelled}
 use Rattle.rules.specs.Parse.{Reader, At, succeed, refuse, demand, begin, bits, many, operator, name_of, ◌>>=◌}
-use Rattle.bits.specs.Reads.{Gives, Fine, Took, Takes, Passed, Passes, Ends, Skips, Skipped, at, belowR, beginR, charsAt}
+use Rattle.bits.specs.Reads.{Gives, Fine, Took, Passed, Passes, Ends, Skips, at, belowR, beginR, charsAt}
 use Rattle.bits.specs.declared.Cursor.{Cursor}
 use Rattle.bits.specs.declared.Step.{Step}
 use Rattle.bits.specs.declared.Step.TheVariants.{Next, Refused}
@@ -235,20 +235,6 @@ assoc {C = C} m g f {s} {c} {res} h = by (see m s c)
             rest : (x : Res (C × At)) → f b s e ≡ x → Gives (f b) s e res
             rest x i = rw (unique h (then _ (then _ r q) (record { is = i }))) (record { is = i })
 
--- ---- an answer opened, by what the code learnt of it
-
-pub took : {m : Reader ℕ} {s : List ℕ} {c d : Cursor} {n k l v : ℕ} {st : Step} → Takes m s c n k l st → st ≡ Next v d → Took m s c n k l v d
-took h e = rw e at h.here
-
-pub failed : {m : Reader ℕ} {s : List ℕ} {c : Cursor} {n k l x : ℕ} {st : Step} → Takes m s c n k l st → st ≡ Refused x → Gives m s (at c) (refused x)
-failed h e = rw e at h.here
-
-pub skipped : {s : List ℕ} {c d : Cursor} {n v : ℕ} {st : Step} → Skips n s c st → st ≡ Next v d → Skipped n s c v d
-skipped h e = rw e at h.here
-
-pub not-skipped : {s : List ℕ} {c : Cursor} {n x : ℕ} {st : Step} → Skips n s c st → st ≡ Refused x → Gives (many n (bits charBits)) s (at c) (refused x)
-not-skipped h e = rw e at h.here
-
 -- a name is a limited field
 pub named : (n : ℕ) {s : List ℕ} {c : At} {res : Res (ℕ × At)} → Gives (belowR nameBits n unknownName) s c res → Gives (name_of n) s c res
 unfolding belowR name_of
@@ -292,12 +278,6 @@ pub begun-out : (w d : ℕ) {s : List ℕ} {x : ℕ} {c : At} → (d ≡ 0 → �
 begun-out w d {s} {x} {c} z h g = begin-then w d z (begins s c h) (recount-out w _ g)
 
 -- ---- bits that are passed over
-
-pub passed : {s : List ℕ} {c d : Cursor} {w v : ℕ} {st : Step} → Passes w s c st → st ≡ Next v d → Passed w s c v d
-passed h e = rw e at h.here
-
-pub not-passed : {s : List ℕ} {c : Cursor} {w x : ℕ} {st : Step} → Passes w s c st → st ≡ Refused x → Ends w s c x
-not-passed h e = rw e at h.here
 
 -- as a field
 pub pass-bits : {s : List ℕ} {c d : Cursor} {w v : ℕ} → Passed w s c v d → Gives (bits w) s (at c) (ok (spelled s w c.pos, at d))
