@@ -1,11 +1,9 @@
 -- What a node's word says, field by field, of the expression that is held there; and costs. Assumes nothing.
 use mathlib.Core.Path.{◌≡◌, refl, sym, ap, ◌∙◌}
-use mathlib.Core.Bool.{Bool}
 use mathlib.Core.List.{List}
-use mathlib.Core.Option.{some}
-use Prim.Native.Nat.{ℕ, suc, ◌+◌, ◌*◌, ◌/◌, ◌%◌, ◌≤◌, ◌<◌}
+use Prim.Native.Nat.{ℕ, ◌+◌, ◌*◌, ◌/◌, ◌%◌, ◌≤◌, ◌<◌}
 use native.Mathlib.Omega.{arith}
-use lib.ListN.{length, get_or, get_elem?}
+use lib.ListN.{length, get_or}
 use Rattle.rules.specs.Constants.{mostBytes, numberBits, charBits, byteBits}
 use Rattle.rules.specs.Bits.{spelled, isOne}
 use Rattle.rules.specs.Tree.{Binop, Unop, Expr, binop, unop, ident, number, string, ofExpr, node, both, emptyTally}
@@ -13,11 +11,11 @@ use Rattle.rules.specs.Tree.{And, Or, Add, Sub, Mul, Div, Mod, Pow, Eq, Ne, Le, 
 use Rattle.rules.specs.Tree.{Neg, Not, Abs, Sqrt, Fact, Sin, Cos, Tan, Asin, Acos, Atan}
 use Rattle.rules.specs.Parse.{binops, unops, signed}
 use Rattle.bits.specs.Reads.{charsAt}
-use Rattle.nodes.specs.Words.{word_of, binopKind, unopKind, incdecKind, identKind, numberKind, stringKind}
-use Rattle.nodes.specs.Holds.{HoldsE, Flag, at-binop, at-unop, at-incdec, at-ident, at-number, at-string}
-use Rattle.nodes.proofs.Words.{Fits, Unpacked, unpacked}
+use Rattle.nodes.specs.Words.{binopKind, unopKind, incdecKind, identKind, numberKind, stringKind}
+use Rattle.nodes.specs.Holds.{HoldsE, at-binop, at-unop, at-incdec, at-ident, at-number, at-string}
+use Rattle.nodes.proofs.Words.{unpacked}
 use Rattle.nodes.proofs.Table.{grows}
-use Rattle.nodes.proofs.Exprs.{op-small, tag, kind-held, IsBinop, is-binop, IsUnop, is-unop, IsIncdec, is-incdec, IsIdent, is-ident, IsNumber, is_number, IsString, is-string}
+use Rattle.nodes.proofs.Exprs.{op-small, tag, kind-held, is-binop, is-unop, is-incdec, is-ident, is_number, is-string}
 use Rattle.codegen.specs.Costs.{binopCost, unopCost}
 use Rattle.codegen.proofs.Lists.{found}
 use Rattle.exprs.specs.Exprs.{exprCost}

@@ -2,6 +2,8 @@
 //
 // `codegen_from_expr` is shown to do what `codegenFromExpr` of `rules` does, for the expression that the node table holds. It calls itself on
 // the operands; their nodes stand behind, so the nodes that remain fall. A caller owes the table and room (`Ready`).
+#![tactic(auto)]
+
 pub mod leaves;
 
 ghost use Rattle.std.specs.Prelude.{◌≡◌, ℕ, ◌≤◌, length};
