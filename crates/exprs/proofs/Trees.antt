@@ -216,21 +216,24 @@ pub str-counts : {s : List ℕ} {w : ℕ} {e : Expr} → StrAt s w e → Text (w
 unfolding ofExpr
 str-counts {s} {w} b = rw b.is (record { strings = refl; characters = length-chars s (w / 256 % 256) (w / 65536 % 524288) })
 
--- an operation's operands
+-- an operation's operands, and the most that each costs
 pub record Sum (l r e : Expr) : Type 0 where
   pub nodes : (ofExpr e).nodes ≡ 1 + (ofExpr l).nodes + (ofExpr r).nodes
   pub strings : (ofExpr e).strings ≡ (ofExpr l).strings + (ofExpr r).strings
   pub characters : (ofExpr e).characters ≡ (ofExpr l).characters + (ofExpr r).characters
+  pub left : exprCost l ≤ 9 * (ofExpr l).nodes
+  pub right : exprCost r ≤ 9 * (ofExpr r).nodes
 
 pub binop-sum : {t s : List ℕ} {m i j : ℕ} {e : Expr} (b : BinopAt t s m i e j) → Sum b.l b.r e
 unfolding ofExpr node both
-binop-sum b = rw b.is (record { nodes = omega arith; strings = refl; characters = refl })
+binop-sum b = rw b.is (record { nodes = omega arith; strings = refl; characters = refl; left = expr-most b.l; right = expr-most b.r })
 
 pub record Over (r e : Expr) : Type 0 where
   pub nodes : (ofExpr e).nodes ≡ 1 + (ofExpr r).nodes
   pub strings : (ofExpr e).strings ≡ (ofExpr r).strings
   pub characters : (ofExpr e).characters ≡ (ofExpr r).characters
+  pub operand : exprCost r ≤ 9 * (ofExpr r).nodes
 
 pub unop-over : {t s : List ℕ} {m i j : ℕ} {e : Expr} (b : UnopAt t s m i e j) → Over b.r e
 unfolding ofExpr node
-unop-over b = rw b.is (record { nodes = omega arith; strings = refl; characters = refl })
+unop-over b = rw b.is (record { nodes = omega arith; strings = refl; characters = refl; operand = expr-most b.r })

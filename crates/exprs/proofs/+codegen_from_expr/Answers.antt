@@ -5,7 +5,7 @@ use Rattle.nodes.proofs.Table.{grows}
 use Rattle.codegen.proofs.Laws.{then, same}
 use Rattle.exprs.specs.Exprs.{exprCost}
 use Rattle.exprs.proofs.Forms.{as-binop, as-unop}
-use Rattle.exprs.proofs.Trees.{binop-at, unop-at, binop-sum, unop-over, expr-most}
+use Rattle.exprs.proofs.Trees.{binop-at, unop-at, binop-sum, unop-over}
 use Rattle.exprs.proofs.+codegen_from_expr.Goals as goal
 
 pub offset_bounds-nodes-i : goal.offset_bounds-nodes-i
@@ -35,48 +35,22 @@ pub codegen_from_expr-r-requires : goal.codegen_from_expr-r-requires
 codegen_from_expr-r-requires t c =
     let p = c.requires in
     let b = binop-at p.short p.few p.held c.if-kind-eq-BINOP.true in
-    let y = binop-sum b in (
-      omega arith,
-      record {
-        names = p.names;
-        tree = b.r;
-        last = p.last;
-        held = b.right;
-        inside = p.inside;
-        short = p.short;
-        few = p.few;
-        fits = record { room = omega arith; strings = omega arith; strings-fit = omega arith; chars = omega arith; chars-fit = omega arith; names = omega arith };
-      },
-    )
+    let y = binop-sum b in
+    (omega arith, record { names = p.names; tree = b.r; last = _; held = b.right; inside = omega arith; short = p.short; few = p.few; fits = omega arith })
 
 pub copy_valreg-x-requires : goal.copy_valreg-x-requires
 copy_valreg-x-requires t c =
     let p = c.requires in
     let b = binop-at p.short p.few p.held c.if-kind-eq-BINOP.true in
     let y = binop-sum b in
-    let r = (c.codegen_from_expr-r.ensures _ _ _ p.few b.right).spent in
-    let z = expr-most b.r in
-    (omega arith, omega arith)
+    omega (arith, (c.codegen_from_expr-r.ensures _ _ _ p.few b.right).spent)
 
 pub codegen_from_expr-l-requires : goal.codegen_from_expr-l-requires
 codegen_from_expr-l-requires t c =
     let p = c.requires in
     let b = binop-at p.short p.few p.held c.if-kind-eq-BINOP.true in
     let y = binop-sum b in
-    let r = (c.codegen_from_expr-r.ensures _ _ _ p.few b.right).spent in
-    let z = expr-most b.r in (
-      omega arith,
-      record {
-        names = p.names;
-        tree = b.l;
-        last = _;
-        held = b.left;
-        inside = omega arith;
-        short = p.short;
-        few = p.few;
-        fits = record { room = omega arith; strings = omega arith; strings-fit = omega arith; chars = omega arith; chars-fit = omega arith; names = omega arith };
-      },
-    )
+    (omega arith, record { names = p.names; tree = b.l; last = _; held = b.left; inside = omega arith; short = p.short; few = p.few; fits = omega (arith, (c.codegen_from_expr-r.ensures _ _ _ p.few b.right).spent) })
 
 pub codegen_from_binop-requires : goal.codegen_from_binop-requires
 codegen_from_binop-requires t c =
@@ -84,10 +58,8 @@ codegen_from_binop-requires t c =
     let b = binop-at p.short p.few p.held c.if-kind-eq-BINOP.true in
     let y = binop-sum b in
     let r = (c.codegen_from_expr-r.ensures _ _ _ p.few b.right).spent in
-    let z = expr-most b.r in
-    let zl = expr-most b.l in
     let v = (c.codegen_from_expr-l.ensures _ _ _ p.few b.left).spent in
-    (omega arith, b.small)
+    omega arith
 
 pub returns-then-kind-eq-BINOP : goal.returns-then-kind-eq-BINOP
 unfolding exprCost ofExpr node both
@@ -108,28 +80,15 @@ pub codegen_from_expr-r-requires-then-kind-eq-UNOP :
 codegen_from_expr-r-requires-then-kind-eq-UNOP t c =
     let p = c.requires in
     let b = unop-at p.held c.if-kind-eq-UNOP.true in
-    let y = unop-over b in (
-      omega arith,
-      record {
-        names = p.names;
-        tree = b.r;
-        last = p.last;
-        held = b.operand;
-        inside = p.inside;
-        short = p.short;
-        few = p.few;
-        fits = record { room = omega arith; strings = omega arith; strings-fit = omega arith; chars = omega arith; chars-fit = omega arith; names = omega arith };
-      },
-    )
+    let y = unop-over b in
+    (omega arith, record { names = p.names; tree = b.r; last = _; held = b.operand; inside = omega arith; short = p.short; few = p.few; fits = omega arith })
 
 pub codegen_from_unop-requires : goal.codegen_from_unop-requires
 codegen_from_unop-requires t c =
     let p = c.requires in
     let b = unop-at p.held c.if-kind-eq-UNOP.true in
     let y = unop-over b in
-    let r = (c.codegen_from_expr-r-then-kind-eq-UNOP.ensures _ _ _ p.few b.operand).spent in
-    let z = expr-most b.r in
-    (omega arith, b.small)
+    omega (arith, (c.codegen_from_expr-r-then-kind-eq-UNOP.ensures _ _ _ p.few b.operand).spent)
 
 pub returns-then-kind-eq-UNOP : goal.returns-then-kind-eq-UNOP
 unfolding exprCost ofExpr node
