@@ -1,5 +1,5 @@
 -- What a replacement adds, told of words: the loop that counts, and the registers' counts afterwards. Assumes nothing.
-use mathlib.Core.Path.{◌≡◌, refl, sym, ap, ◌∙◌}
+use mathlib.Core.Path.{◌≡◌, refl, ap}
 use mathlib.Core.List.{List, [], ◌∷◌, ◌++◌}
 use Prim.Native.Nat.{ℕ, ◌+◌, ◌≤◌, ◌<◌}
 use native.Mathlib.Omega.{arith}
@@ -10,20 +10,17 @@ use Rattle.rules.specs.Word.{wordIns}
 use Rattle.rules.specs.Replace.{ruleOf}
 use Rattle.words.specs.Told.{replacedOf}
 use Rattle.words.specs.declared.instr.Replaced.{Replaced}
-use Rattle.replace.specs.Pass.{numbersBy, stringsBy, number_of, stringOf, Adds, sums}
+use Rattle.replace.specs.Pass.{numbersBy, stringsBy, number_of, stringOf, sums}
 
--- one word, by the answer d of the code, which is v
-module _ (w : ℕ) (d : Replaced) (told : d ≡ replacedOf (ruleOf (wordIns w)) (wordIns w)) (v : Replaced) (e : d ≡ v) where
+-- one word, by the answer v of the code
+module _ (w : ℕ) (v : Replaced) (told : v ≡ replacedOf (ruleOf (wordIns w)) (wordIns w)) where
   pub numbers-are : numbersBy v ≡ number_of w
   unfolding number_of
-  numbers-are = ap numbersBy (sym e ∙ told)
+  numbers-are = ap numbersBy told
 
   pub strings-are : stringsBy v ≡ stringOf w
   unfolding stringOf
-  strings-are = ap stringsBy (sym e ∙ told)
-
-  pub adds-is : numbersBy v ≤ 1 → stringsBy v ≤ 1 → Adds w (numbersBy v) (stringsBy v)
-  adds-is a b = record { numbers = numbers-are; strings = strings-are; numbers-one = a; strings-one = b }
+  strings-are = ap stringsBy told
 
 -- ---- sums
 
@@ -39,9 +36,9 @@ pub sums-append : (f : ℕ → ℕ) (us vs : List ℕ) → sums f (us ++ vs) ≡
 sums-append f [] vs = rw sums-nil (omega arith)
 sums-append f (u ∷ us) vs = rw (sums-cons f u (us ++ vs), sums-cons f u us, sums-append f us vs) (omega arith)
 
-module _ (f : ℕ → ℕ) (t : List ℕ) (i e k : ℕ) where
-  pub sums-done : e ≤ i → i ≤ e → k + sums f (slice i e t) ≡ k
-  sums-done a b = let z : i ≡ e = omega arith in rw (z, slice_empty, sums-nil) (omega arith)
+module _ (f : ℕ → ℕ) (t : List ℕ) (i e : ℕ) where
+  pub sums_end : e ≤ i → i ≤ e → sums f (slice i e t) ≡ 0
+  sums_end a b = let z : i ≡ e = omega arith in rw (z, slice_empty) (sums-nil f)
 
-  pub sums-more : i < e → e ≤ length t → (m : ℕ) → m ≡ f (get_or t i 0) → k + m + sums f (slice (i + 1) e t) ≡ k + sums f (slice i e t)
-  sums-more h l m m-is = rw (add-one, slice-cons i e t 0 h l, sums-cons, m-is) (omega arith)
+  pub sums_at : i < e → e ≤ length t → sums f (slice i e t) ≡ f (get_or t i 0) + sums f (slice (i + 1) e t)
+  sums_at h l = rw (add-one, slice-cons i e t 0 h l) (sums-cons f _ _)

@@ -35,8 +35,8 @@ pub record Running (p : ℕ) (is : List ℕ) (ns : List ℤ) (ts : List ℕ) (b�
   pub t-len : length t ≡ length ts
 
 module _ (p : ℕ) (is : List ℕ) (ns : List ℤ) (ts : List ℕ) (b₀ n₀ s₀ from to : ℕ) (o : Open is ns ts b₀ n₀ s₀ from to) where
-  pub run-begins : Running p is ns ts b₀ n₀ s₀ from to is ns ts from b₀ n₀ s₀
-  run-begins = record {
+  pub run_begins : Running p is ns ts b₀ n₀ s₀ from to is ns ts from b₀ n₀ s₀
+  run_begins = record {
     code = refl;
     regs = refl;
     rest = refl;
@@ -93,8 +93,8 @@ module _ (p : ℕ) (is : List ℕ) (ns : List ℤ) (ts : List ℕ) (b₀ n₀ s�
       left-strings : s + (stringOf (get_or i j 0) + sums stringOf (slice (j + 1) to is)) ≡ s₀ + sums stringOf (slice from to is)
       left-strings = rw (next, sums-cons) at r.string-left
 
-      pub run-spare : Spare i k t b n s (get_or i j 0)
-      run-spare =
+      pub run_spare : Spare i k t b n s (get_or i j 0)
+      run_spare =
           let a = r.b-j in
           let x = r.i-len in
           let y = r.k-len in

@@ -36,23 +36,26 @@ turned-code p r i (number n) v e = let z : ◌≡◌ {A = ℕ} 0 1 = cc in absur
 turned-code p r i (result n) v e = let z : ◌≡◌ {A = ℕ} 0 1 = cc in absurd (omega arith)
 turned-code p r i blank v e = let z : ◌≡◌ {A = ℕ} 0 1 = cc in absurd (omega arith)
 
-module _ (is : List ℕ) (ns : List ℤ) (ts : List ℕ) (p b n s w : ℕ) (d : Replaced) (told : d ≡ replacedOf (ruleOf (wordIns w)) (wordIns w)) where
+module _ (is : List ℕ) (ns : List ℤ) (ts : List ℕ) (p b n s w : ℕ) where
+  abbrev answer : Replaced
+  answer = replacedOf (ruleOf (wordIns w)) (wordIns w)
+
   abbrev regs : Regs
   regs = regs_of ns ts n s
 
   abbrev result-of : List Instruction × Regs
   result-of = replaceIns p regs (wordIns w)
 
-  by : (v : Replaced) → d ≡ v → replacedBy p regs (wordIns w) v ≡ result-of
-  by v e = ap (replacedBy p regs (wordIns w)) (sym e ∙ told) ∙ replaced-is p regs (wordIns w) (ins-small w)
+  by : (v : Replaced) → v ≡ answer → replacedBy p regs (wordIns w) v ≡ result-of
+  by v e = ap (replacedBy p regs (wordIns w)) e ∙ replaced-is p regs (wordIns w) (ins-small w)
 
   abbrev Step : List ℕ → List ℤ → List ℕ → ℕ → ℕ → ℕ → Type 0
   Step is' ns' ts' b' n' s' = Stepped is ns ts is' ns' ts' p b n s b' n' s' w
 
-  pub gone : d ≡ Goes → Step is ns ts b n s
+  pub gone : Goes ≡ answer → Step is ns ts b n s
   gone e =
-      let x = numbers-are w d told Goes e in
-      let y = strings-are w d told Goes e in
+      let x = numbers-are w Goes e in
+      let y = strings-are w Goes e in
       record {
         code = sym (append-nil (take b is)) ∙ ap (λ (x : List Instruction × Regs). take b is ++ map insWord x.0) (by Goes e);
         regs = ap (λ (x : List Instruction × Regs). x.1) (by Goes e);
@@ -72,10 +75,10 @@ module _ (is : List ℕ) (ns : List ℤ) (ts : List ℕ) (p b n s w : ℕ) (d : 
     b-len : b + 1 ≤ length is
     b-len = omega arith
 
-    pub kept : d ≡ Stays → (v : ℕ) → v ≡ insWord (wordIns w) → Step (set is b v) ns ts (b + 1) n s
+    pub kept : Stays ≡ answer → (v : ℕ) → v ≡ insWord (wordIns w) → Step (set is b v) ns ts (b + 1) n s
     kept e v v-is =
-        let x = numbers-are w d told Stays e in
-        let y = strings-are w d told Stays e in
+        let x = numbers-are w Stays e in
+        let y = strings-are w Stays e in
         record {
           code = set-taken is b (b + 1) v b-next b-len ∙ ap (λ (x : ℕ). take b is ++ (x ∷ [])) v-is ∙ ap (λ (x : List Instruction × Regs). take b is ++ map insWord x.0) (by Stays e);
           regs = ap (λ (x : List Instruction × Regs). x.1) (by Stays e);
@@ -88,12 +91,12 @@ module _ (is : List ℕ) (ns : List ℤ) (ts : List ℕ) (p b n s w : ℕ) (d : 
           shorter = omega arith;
         }
 
-    pub turned : (v : I.Instruction) → d ≡ Turns v → Step (set is b v.0) ns ts (b + 1) n s
+    pub turned : (v : I.Instruction) → Turns v ≡ answer → Step (set is b v.0) ns ts (b + 1) n s
     turned v e =
-        let x = numbers-are w d told (Turns v) e in
-        let y = strings-are w d told (Turns v) e in
+        let x = numbers-are w (Turns v) e in
+        let y = strings-are w (Turns v) e in
         record {
-          code = set-taken is b (b + 1) v.0 b-next b-len ∙ ap (λ (x : List ℕ). take b is ++ x) (turned-code p regs (wordIns w) (ruleOf (wordIns w)) v (sym e ∙ told));
+          code = set-taken is b (b + 1) v.0 b-next b-len ∙ ap (λ (x : List ℕ). take b is ++ x) (turned-code p regs (wordIns w) (ruleOf (wordIns w)) v e);
           regs = ap (λ (x : List Instruction × Regs). x.1) (by (Turns v) e);
           rest = set_rest is b (b + 1) v.0 b-next b-len;
           number-rest = refl;
@@ -104,7 +107,7 @@ module _ (is : List ℕ) (ns : List ℤ) (ts : List ℕ) (p b n s w : ℕ) (d : 
           shorter = omega arith;
         }
 
-    module _ (z : Z.Number) (m : N.NumReg) (e : d ≡ Number z m) (l : n < length ns) (is' : List ℕ) (ns' : List ℤ) (b' n' s' : ℕ) (a : NumberAdded is ns is' ns' b n s b' n' s' z.0 m.0) where
+    module _ (z : Z.Number) (m : N.NumReg) (e : Number z m ≡ answer) (l : n < length ns) (is' : List ℕ) (ns' : List ℤ) (b' n' s' : ℕ) (a : NumberAdded is ns is' ns' b n s b' n' s' z.0 m.0) where
       n-next : n < n + 1
       n-next = omega arith
 
@@ -125,8 +128,8 @@ module _ (is : List ℕ) (ns : List ℤ) (ts : List ℕ) (p b n s w : ℕ) (d : 
 
       pub number-added : Step is' ns' ts b' n' s'
       number-added =
-          let x = numbers-are w d told (Number z m) e in
-          let y = strings-are w d told (Number z m) e in
+          let x = numbers-are w (Number z m) e in
+          let y = strings-are w (Number z m) e in
           let i = a.instr-count in
           let j = a.number-count in
           let k = a.string-count in
@@ -142,7 +145,7 @@ module _ (is : List ℕ) (ns : List ℤ) (ts : List ℕ) (p b n s w : ℕ) (d : 
             shorter = omega arith;
           }
 
-    module _ (m : S.StrReg) (e : d ≡ Blank m) (l : s < length ts) (o : p < 65536) (is' ts' : List ℕ) (b' n' s' : ℕ) (a : BlankAdded is ts is' ts' b n s b' n' s' p m.0) where
+    module _ (m : S.StrReg) (e : Blank m ≡ answer) (l : s < length ts) (o : p < 65536) (is' ts' : List ℕ) (b' n' s' : ℕ) (a : BlankAdded is ts is' ts' b n s b' n' s' p m.0) where
       abbrev empty : Span
       empty = record { start = p; size = 0 }
 
@@ -175,8 +178,8 @@ module _ (is : List ℕ) (ns : List ℤ) (ts : List ℕ) (p b n s w : ℕ) (d : 
 
       pub blank-added : Step is' ns ts' b' n' s'
       blank-added =
-          let x = numbers-are w d told (Blank m) e in
-          let y = strings-are w d told (Blank m) e in
+          let x = numbers-are w (Blank m) e in
+          let y = strings-are w (Blank m) e in
           let i = a.instr-count in
           let j = a.number-count in
           let k = a.string-count in

@@ -11,6 +11,7 @@ pub struct Added {
 }
 
 // What one instruction adds.
+#[tactic(auto, unfolding(crate::specs::Pass::number_of, crate::specs::Pass::stringOf))]
 fn adds(w: Instruction) -> Added
     ensures { Adds w.0 result.numbers result.strings }
 {
@@ -39,6 +40,7 @@ fn adds(w: Instruction) -> Added
 }
 
 // What the first e instructions add.
+#[tactic(auto, using(crate::proofs::Adding::sums_end, crate::proofs::Adding::sums_at))]
 pub fn additions(t: &[u64], e: usize) -> Added
     requires { e ≤ length t.now }
     ensures { AddsAll t.now e result.numbers result.strings }

@@ -16,6 +16,7 @@ pub struct At {
 }
 
 // An added number, and its copy into a register.
+#[tactic(auto, unfolding(rules::specs::Instr::kinds, rules::specs::Instr::table))]
 fn add_number(
     instructions: &mut [u64],
     numbers: &mut [i64],
@@ -40,6 +41,7 @@ fn add_number(
 }
 
 // An added empty string, and its copy into a register.
+#[tactic(auto, unfolding(rules::specs::Instr::kinds, rules::specs::Instr::table))]
 fn add_blank(
     instructions: &mut [u64],
     strings: &mut [u32],
@@ -63,6 +65,7 @@ fn add_blank(
     }
 }
 
+#[tactic(auto, unfolding(crate::specs::Pass::number_of, crate::specs::Pass::stringOf))]
 pub fn replace_instruction(
     instructions: &mut [u64],
     numbers: &mut [i64],

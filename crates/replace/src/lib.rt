@@ -1,4 +1,6 @@
 // Replacement of duplicate operands in a machine in lent tables.
+#![tactic(auto)]
+
 pub mod additions;
 pub mod instruction;
 pub mod replace;

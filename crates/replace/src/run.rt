@@ -7,6 +7,7 @@ use crate::instruction::{At, replace_instruction};
 use words::instr::Instruction;
 
 // The run from..to.
+#[tactic(auto, using(crate::proofs::Runs::run_begins, crate::proofs::Runs::run_ends))]
 pub fn replace_run(
     instructions: &mut [u64],
     numbers: &mut [i64],

@@ -1,0 +1,31 @@
+-- The ways out of `replace`; the check gives the counts' bounds.
+use Rattle.std.proofs.Common.{ℕ, ◌<◌, ◌^◌, get_or, sym, ◌∙◌, arith, rules}
+use Rattle.tables.proofs.Sound.{sound}
+use Rattle.replace.proofs.Replaces.{replace-12, replace-11, ready, replace-done}
+use Rattle.replace.proofs.replace.replace.Goals as goal
+
+pub returns-then-not-check : goal.returns-then-not-check
+returns-then-not-check c = replace-12 _ _ (sym c.check.ensures ∙ c.if-not-check.true)
+
+pub additions-added-requires : goal.additions-added-requires
+additions-added-requires c = (sound _ _ (sym c.check.ensures ∙ c.if-not-check.false)).counts.instrs
+
+pub overflow_add-c : goal.overflow_add-c
+overflow_add-c c = let k = (sound _ _ (sym c.check.ensures ∙ c.if-not-check.false)).counts in omega (arith, k.numbers-few, k.instrs-few)
+
+pub overflow_add-c-2 : goal.overflow_add-c-2
+overflow_add-c-2 c = let k = (sound _ _ (sym c.check.ensures ∙ c.if-not-check.false)).counts in omega (arith, k.strings-few, k.instrs-few)
+
+pub returns-then-not-fits : goal.returns-then-not-fits
+returns-then-not-fits c =
+    replace-11 _ _ (sym c.check.ensures ∙ c.if-not-check.false) _ _ c.additions-added.ensures _ _ c.slots.ensures c.slots-2.ensures c.if-not-fits.true
+
+pub replace_duplicates-done-requires : goal.replace_duplicates-done-requires
+replace_duplicates-done-requires c =
+    let small : (i : ℕ) → get_or c.args.strings.now i 0 < 2 ^ 32 = λ i. search rules in
+    ready _ _ (sym c.check.ensures ∙ c.if-not-check.false) _ _ c.additions-added.ensures _ _ c.slots.ensures c.slots-2.ensures c.if-not-fits.false small
+
+pub returns : goal.returns
+returns c =
+    let small : (i : ℕ) → get_or c.args.strings.now i 0 < 2 ^ 32 = λ i. search rules in
+    replace-done _ _ (sym c.check.ensures ∙ c.if-not-check.false) _ _ c.additions-added.ensures _ _ c.slots.ensures c.slots-2.ensures c.if-not-fits.false small _ _ _ _ _ _ _ c.replace_duplicates-done.ensures
