@@ -1,5 +1,5 @@
 -- The turns of the pass that packs: what is done, then what is left to do, is all that was to do. Assumes nothing.
-use mathlib.Core.Path.{◌≡◌, refl, ◌∙◌}
+use mathlib.Core.Path.{◌≡◌, ◌∙◌}
 use mathlib.Core.Bool.{true, false}
 use mathlib.Core.List.{List, [], ◌∷◌, ◌++◌, append_assoc, append-nil}
 use Prim.Native.Nat.{ℕ, ◌+◌, ◌-◌, ◌<◌, ◌≤◌}
@@ -23,9 +23,6 @@ pub record Packing (ss is : List ℕ) (n e : ℕ) (s t : List ℕ) (i m a b : �
   pub i-n : i ≤ n
   pub s_len : length s ≡ length ss
   pub t-len : length t ≡ length is
-
-pub pack-begins : (ss is : List ℕ) (n e : ℕ) → total (take n ss) ≡ e → Packing ss is n e ss is 0 0 0 0
-pack-begins ss is n e h = record { done = refl; rest = refl; code = refl; tail = refl; left = omega arith; m-i = omega arith; b-a = omega arith; i-n = omega arith; s_len = refl; t-len = refl }
 
 module _ (ss is : List ℕ) (n e : ℕ) (s t : List ℕ) (i m a b : ℕ) (p : Packing ss is n e s t i m a b) where
   pub pack-ends : n ≤ i → Kept ss is s t n e m b

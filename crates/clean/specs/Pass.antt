@@ -1,5 +1,5 @@
 -- The passes of clean on words: what each leaves in the tables.
-use Rattle.std.specs.Prelude.{Bool, true, false, cond, ◌≡◌, List, [], ◌∷◌, ◌++◌, map, ℕ, pred, ◌+◌, ◌-◌, ◌≤◌, ltb, length, take, drop, get_or}
+use Rattle.std.specs.Prelude.{Bool, true, false, cond, ◌≡◌, List, [], ◌∷◌, ◌++◌, map, ℕ, pred, ◌+◌, ◌≤◌, ltb, length, take, drop, get_or}
 use Rattle.rules.specs.Bits.{isOne}
 use Rattle.rules.specs.Instr.{isJump}
 use Rattle.rules.specs.Word.{wordRun, runWord, wordIns, insWord}

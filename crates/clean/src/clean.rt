@@ -16,6 +16,7 @@ use words::instr::Instruction;
 use words::section::SectionWord;
 
 // A jump's target is one of the n sections and fixed.
+#[tactic(auto, unfolding(crate::specs::Pass::jumpIn, tables::specs::Runs::fixed_word))]
 fn jump_fixed(sections: &[u64], n: usize, w: Instruction) -> bool
     requires { n ≤ length sections.now }
     ensures { result ≡ jumpIn sections.now n w.0 }
@@ -30,6 +31,7 @@ fn jump_fixed(sections: &[u64], n: usize, w: Instruction) -> bool
     is_fixed(SectionWord(sections[t]))
 }
 
+#[tactic(auto, using(tables::proofs::Walks::all_done, tables::proofs::Walks::all_at))]
 fn jumps_fixed(sections: &[u64], n: usize, t: &[u64], e: usize) -> bool
     requires { (n ≤ length sections.now) × (e ≤ length t.now) }
     ensures { result ≡ allb (jumpIn sections.now n) (take e t.now) }

@@ -8,6 +8,7 @@ use words::instr::Section;
 use words::section::SectionWord;
 
 // The sections kept up to and including w, k before it.
+#[tactic(auto, unfolding(crate::specs::Pass::bump, tables::specs::Runs::fixed_word))]
 fn bump(k: u16, w: SectionWord) -> u16
     requires { k < 65535 }
     ensures { (result ≡ bump k w.0) × (result ≤ k + 1) }
@@ -41,6 +42,7 @@ fn one_less(k: u16) -> u16
 }
 
 // The new number of a section, from the numbered words; past them, the last one's.
+#[tactic(auto, using(crate::proofs::Single::first_at), unfolding(crate::specs::Pass::newNumber))]
 pub fn new_number(sections: &[u64], n: usize, kept: u16, t: Section) -> Section
     requires { n ≤ length sections.now }
     ensures { result.0 ≡ newNumber (map first_of sections.now) n kept t.0 }

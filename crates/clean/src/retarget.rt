@@ -7,6 +7,7 @@ use crate::number::new_number;
 use words::instr::{Instruction, Section};
 use words::section::{SectionOrLine, SectionWord};
 
+#[tactic(auto, unfolding(crate::specs::Pass::withTarget))]
 fn with_target(sections: &[u64], n: usize, kept: u16, w: SectionWord) -> SectionWord
     requires { n ≤ length sections.now }
     ensures { result.0 ≡ withTarget (newNumber (map first_of sections.now) n kept) w.0 }
@@ -20,6 +21,7 @@ fn with_target(sections: &[u64], n: usize, kept: u16, w: SectionWord) -> Section
     }
 }
 
+#[tactic(auto, unfolding(crate::specs::Pass::withJump))]
 fn with_jump(sections: &[u64], n: usize, kept: u16, w: Instruction) -> Instruction
     requires { n ≤ length sections.now }
     ensures { result.0 ≡ withJump (newNumber (map first_of sections.now) n kept) w.0 }
