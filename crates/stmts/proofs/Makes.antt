@@ -144,9 +144,6 @@ pub makes-jump : {n : ℕ} {m : Lower ℕ} {l : Bool} {c c1 c' : Counters} {t : 
 makes-jump {c1 = c1} {r = r} d f slot se x code at put word =
     makes d f slot se x code (ap (λ (k : Counters). k.at) at) (λ e b g q. rw at (regs-moved _ c1.err q.err q)) put word
 
-pub placed_same : (c : Counters) → c ≡ placed c (c.at + 0)
-placed_same c = ap (placed c) (sym (add-zero c.at))
-
 pub jump-most : (b : Bool) (n r : ℕ) → length (jump b n r) ≤ 1
 jump-most true n r = omega arith
 jump-most false n r = omega arith

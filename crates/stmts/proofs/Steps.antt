@@ -4,7 +4,7 @@ use mathlib.Core.Bool.{Bool, cond}
 use mathlib.Core.List.{List}
 use Prim.Native.Nat.{ℕ, ◌+◌, ◌-◌, ◌/◌, ◌≤◌, ◌<◌}
 use native.Mathlib.Omega.{arith}
-use lib.ListN.{length, get_or}
+use lib.ListN.{get_or}
 use Rattle.rules.specs.Tree.{Block, ofBlock, emptyTally}
 use Rattle.nodes.specs.Width.{width}
 use Rattle.nodes.specs.Holds.{HoldsB}
@@ -32,11 +32,6 @@ ready-first p h e =
       shallow = omega (arith, p.shallow, pa.first-deep);
       ample = omega (arith, p.ample, pa, e);
     }
-
-pub list-begin : {s t : List ℕ} {i count depth n k : ℕ} {l : Bool} {c : Counters} {t0 : Lent} {se : List ℕ}
-    → ListReady s t i count depth n c (length t0.instrs) (length t0.numbers) (length t0.strings) (length t0.pool) (length t0.names) (length se)
-    → ListMid s t i count depth l n k c t0 se i count l n c t0 se
-list-begin r = record { ready = r; going = λ m x z a h. record { others = x; held = h; goes = λ t2 se2 c2 node number d. d } }
 
 module _ {s t : List ℕ} {i0 count depth n0 k : ℕ} {l0 : Bool} {c0 : Counters} {t0 : Lent} {se0 : List ℕ} {i left n : ℕ} {l : Bool} {c : Counters} {t1 : Lent} {se : List ℕ} (mid : ListMid s t i0 count depth l0 n0 k c0 t0 se0 i left l n c t1 se) where
   -- one more is lowered: linked as fl says, with number fn, left to fk; the whole is left to j, which is k

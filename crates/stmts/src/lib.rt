@@ -1,4 +1,6 @@
 // Lowering of statements.
+#![tactic(auto)]
+
 pub mod own;
 pub mod sections;
 pub mod stmt;

@@ -32,6 +32,7 @@ pub enum Assignop {
     PowTo,
 }
 
+#[tactic(auto, unfolding(rules::specs::Parse::assignops))]
 pub fn assignop_of(k: u64) -> Assignop
     requires { k < 7 }
     ensures { assignTold result ≡ get_or assignops k Tree.PowTo }
@@ -48,6 +49,7 @@ pub fn assignop_of(k: u64) -> Assignop
 }
 
 // An operator's result goes back into the variable.
+#[tactic(auto, unfolding(rules::specs::Instr::kinds, rules::specs::Instr::table))]
 fn store(
     instrs: &mut [u64],
     numbers: &mut [i64],
@@ -69,6 +71,7 @@ fn store(
 }
 
 // The value e is assigned to the variable v.
+#[tactic(auto, unfolding(rules::specs::Instr::kinds, rules::specs::Instr::table, rules::specs::Instr::canRuntimeErr, codegen::specs::Costs::guardCost, crate::specs::Told::assignCost))]
 pub fn assign_by(
     instrs: &mut [u64],
     numbers: &mut [i64],

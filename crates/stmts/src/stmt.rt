@@ -29,6 +29,7 @@ pub struct Ended {
 }
 
 // How many sections the statement with the word w makes.
+#[tactic(auto, unfolding(crate::specs::Lists::madeBy))]
 fn made(w: u64) -> u16
     ensures { result ≡ madeBy w }
 {
@@ -39,6 +40,7 @@ fn made(w: u64) -> u16
 }
 
 // The place of a list's first statement: it goes on to the others, if there are any.
+#[tactic(auto, unfolding(crate::specs::Lists::entryBy))]
 pub fn first_link(w: u64, count: usize, link: Link) -> Link
     requires { link.number.0 + madeBy w ≤ 65535 }
     ensures linked { result.linked ≡ link.linked }
@@ -58,6 +60,7 @@ pub fn first_link(w: u64, count: usize, link: Link) -> Link
 }
 
 // The place of the others: behind a Goto they are not linked.
+#[tactic(auto, unfolding(crate::specs::Lists::linkedBy))]
 pub fn rest_link(w: u64, link: Link) -> Link
     requires { link.number.0 + madeBy w ≤ 65535 }
     ensures linked { result.linked ≡ linkedBy w link.linked }

@@ -1,0 +1,14 @@
+-- The expression and then its number.
+use Rattle.std.proofs.Common.{arith}
+use Rattle.codegen.proofs.Laws.{then, same}
+use Rattle.exprs.proofs.Trees.{expr-most}
+use Rattle.stmts.proofs.Forms.{as_line}
+use Rattle.stmts.proofs.own.line_number.Goals as goal
+
+pub numberify-requires : goal.numberify-requires
+numberify-requires c = let s = (c.codegen_from_expr-e.ensures _ _ _ c.requires.few c.requires.held).spent in let z = expr-most c.requires.tree in omega arith
+
+pub returns : goal.returns
+returns c = λ m e j h x.
+    let s = (c.codegen_from_expr-e.ensures m e j h x).spent in
+    record { does = same (as_line _) (then _ (c.codegen_from_expr-e.ensures m e j h x).does c.numberify.ensures.does.does); spent = omega arith }

@@ -1,0 +1,202 @@
+-- Each function hands what its tree's part needs down to the next, and the laws of lists put the parts together.
+use Rattle.std.proofs.Common.{◌≡◌, ℕ, ◌+◌, ◌/◌, ◌%◌, sym, ap, ◌∙◌, refl, add-one, arith, get_or}
+use Rattle.rules.specs.Tree.{ofBlock, both, emptyTally}
+use Rattle.nodes.specs.Width.{width}
+use Rattle.nodes.specs.Words.{iteKind}
+use Rattle.nodes.proofs.Blocks.{is-end, tag, kind-held}
+use Rattle.nodes.proofs.Table.{grows-b}
+use Rattle.nodes.proofs.Width.{or-one}
+use Rattle.stmts.specs.Parts.{insideTally}
+use Rattle.stmts.proofs.Lists.{some-width, branch-empty, branch-list, stored-empty}
+use Rattle.stmts.proofs.Parts.{one-parts, none_inside, ite-inside, inside-none, inside-ite, lists-one}
+use Rattle.stmts.proofs.Places.{not_end, ite-at, ite-sum}
+use Rattle.stmts.proofs.Splits.{parts, split, starts, one_only}
+use Rattle.stmts.proofs.Steps.{ready-first, list_on, list-end}
+use Rattle.stmts.proofs.stmt.+codegen_and_link_stmts_codegen_from_branch_codegen_from_inside_codegen_from_lists_codegen_from_stmt.Goals as goal
+
+-- ---- a list
+
+pub codegen_and_link_stmts-offset_bounds-nodes-node : goal.codegen_and_link_stmts-offset_bounds-nodes-node
+codegen_and_link_stmts-offset_bounds-nodes-node t c = let p = c.loop-left.invariant.mid.ready in let sp = split p.short p.few c.loop-left-test.true p.held in omega arith
+
+pub codegen_and_link_stmts-bounds-nodes-node : goal.codegen_and_link_stmts-bounds-nodes-node
+codegen_and_link_stmts-bounds-nodes-node t c = let p = c.loop-left.invariant.mid.ready in let sp = split p.short p.few c.loop-left-test.true p.held in omega arith
+
+pub codegen_and_link_stmts-first_link-requires : goal.codegen_and_link_stmts-first_link-requires
+codegen_and_link_stmts-first_link-requires t c = let p = c.loop-left.invariant.mid.ready in let sp = split p.short p.few c.loop-left-test.true p.held in omega (arith, p.ample, parts p.block)
+
+pub codegen_and_link_stmts-codegen_from_stmt-d-requires : goal.codegen_and_link_stmts-codegen_from_stmt-d-requires
+codegen_and_link_stmts-codegen_from_stmt-d-requires t c = (omega arith, ready-first c.loop-left.invariant.mid.ready c.loop-left-test.true c.first_link.ensures.number)
+
+pub codegen_and_link_stmts-rest_link-here-requires : goal.codegen_and_link_stmts-rest_link-here-requires
+codegen_and_link_stmts-rest_link-here-requires t c = let p = c.loop-left.invariant.mid.ready in let sp = split p.short p.few c.loop-left-test.true p.held in omega (arith, p.ample, parts p.block)
+
+pub codegen_and_link_stmts-loop-left-preserved : goal.codegen_and_link_stmts-loop-left-preserved
+codegen_and_link_stmts-loop-left-preserved t c =
+    let i = c.loop-left.invariant in
+    let f = c.first_link.ensures in
+    let r = c.rest_link-here.ensures in
+    let st = c.codegen_from_stmt-d in
+    record {
+      left_to = r.next ∙ i.left_to;
+      mid = list_on i.mid c.loop-left-test.true f.linked f.number f.next i.left_to r.linked r.number (omega (arith, st.auto)) st.ensures;
+    }
+
+pub codegen_and_link_stmts-returns : goal.codegen_and_link_stmts-returns
+codegen_and_link_stmts-returns t c = λ m x z h q. list-end c.loop-left.invariant.mid c.loop-left-test.false h q
+
+-- ---- an Ite's list
+
+pub codegen_from_branch-put_section-requires : goal.codegen_from_branch-put_section-requires
+codegen_from_branch-put_section-requires t c = let o = or-one (width c.requires.0.block) in omega arith
+
+pub codegen_from_branch-overflow_add-behind : goal.codegen_from_branch-overflow_add-behind
+codegen_from_branch-overflow_add-behind t c = let o = or-one (width c.requires.0.block) in omega arith
+
+pub codegen_from_branch-returns-then-count-eq0 : goal.codegen_from_branch-returns-then-count-eq0
+unfolding ofBlock emptyTally
+codegen_from_branch-returns-then-count-eq0 t c = λ m x z h q.
+    let e = is-end q c.if-count-eq0.true in
+    rw e.is (record { does = branch-empty (stored-empty c.put_section.ensures refl); spent = omega arith; node-is = e.here })
+
+pub codegen_from_branch-codegen_and_link_stmts-requires : goal.codegen_from_branch-codegen_and_link_stmts-requires
+codegen_from_branch-codegen_and_link_stmts-requires t c =
+    let p = c.requires.0 in
+    let o = or-one (width p.block) in
+    (omega arith, record { known = p.known; block = p.block; last = p.last; held = p.held; inside = p.inside; short = p.short; few = p.few; shallow = p.shallow; ample = omega arith })
+
+pub codegen_from_branch-returns : goal.codegen_from_branch-returns
+codegen_from_branch-returns t c = λ m x z h q.
+    let r = c.codegen_and_link_stmts.ensures m x z h q in
+    record { does = branch-list x (not_end q c.if-count-eq0.false) r.does; spent = r.spent; node-is = r.node-is }
+
+-- ---- the lists of a statement
+
+pub codegen_from_inside-offset_bounds-nodes-i : goal.codegen_from_inside-offset_bounds-nodes-i
+codegen_from_inside-offset_bounds-nodes-i t c = let p = c.requires in let sp = split p.short p.few (omega arith) p.held in omega arith
+
+pub codegen_from_inside-bounds-nodes-i : goal.codegen_from_inside-bounds-nodes-i
+codegen_from_inside-bounds-nodes-i t c = let p = c.requires in let sp = split p.short p.few (omega arith) p.held in omega arith
+
+pub codegen_from_inside-returns-then-w-ne-ITE : goal.codegen_from_inside-returns-then-w-ne-ITE
+codegen_from_inside-returns-then-w-ne-ITE t c = λ m x z h q.
+    let n : tag x + 8 ≡ iteKind → ⊥ = λ y. c.if-w-ne-ITE.true (kind-held (omega arith) q ∙ y) in
+    let k = none_inside x n in
+    record { does = inside-none x n; spent = omega arith }
+
+pub codegen_from_inside-overflow_add-number : goal.codegen_from_inside-overflow_add-number
+codegen_from_inside-overflow_add-number t c =
+    let p = c.requires in
+    let it = ite-at p.short p.few p.held c.if-w-ne-ITE.false in
+    let sm = ite-sum it.e it.yes it.no _ it.is in
+    omega arith
+
+pub codegen_from_inside-bounds-nodes-h : goal.codegen_from_inside-bounds-nodes-h
+codegen_from_inside-bounds-nodes-h t c =
+    let p = c.requires in
+    let it = ite-at p.short p.few p.held c.if-w-ne-ITE.false in
+    omega arith
+
+pub codegen_from_inside-codegen_from_lists-requires : goal.codegen_from_inside-codegen_from_lists-requires
+unfolding both
+codegen_from_inside-codegen_from_lists-requires t c =
+    let p = c.requires in
+    let it = ite-at p.short p.few p.held c.if-w-ne-ITE.false in
+    let sm = ite-sum it.e it.yes it.no _ it.is in
+    let tl = ite-inside it.e it.yes it.no _ it.is in (
+      omega arith,
+      record {
+        known = p.known;
+        yes = it.yes;
+        no = it.no;
+        mid = it.mid;
+        last = p.last;
+        then-held = it.then-held;
+        else-held = it.else-held;
+        inside = p.inside;
+        short = p.short;
+        few = p.few;
+        few-then = it.few-then;
+        few-else = it.few-else;
+        width-then = it.width-then;
+        width-else = it.width-else;
+        shallow-then = omega arith;
+        shallow-else = omega arith;
+        ample = omega arith;
+      },
+    )
+
+pub codegen_from_inside-returns : goal.codegen_from_inside-returns
+unfolding insideTally
+codegen_from_inside-returns t c = λ m x z h q.
+    let it = ite-at c.requires.short h q c.if-w-ne-ITE.false in
+    let ls = c.codegen_from_lists.ensures m _ _ _ _ h it.then-held it.else-held in
+    rw it.is
+    (record {
+      does = inside-ite it.e it.yes it.no (add-one _) (ap (λ (k : ℕ). c.args.link.number.0 + 1 + k) it.width-then)
+          (ap (λ (k : ℕ). c.args.link.number.0 + 1 + get_or c.args.nodes.now c.args.i 0 / 34359738368 % 8192 + k) it.width-else) ls.yes ls.no ls.join;
+      spent = ls.spent;
+    })
+
+-- ---- an Ite's two lists and the join
+
+pub codegen_from_lists-codegen_from_branch-t-requires : goal.codegen_from_lists-codegen_from_branch-t-requires
+unfolding both
+codegen_from_lists-codegen_from_branch-t-requires t c =
+    let p = c.requires in
+    let g = grows-b p.else-held in
+    (omega arith, (record { known = p.known; block = p.yes; last = p.mid; held = p.then-held; inside = omega arith; short = p.short; few = p.few; shallow = omega arith; ample = omega arith }, p.few-then))
+
+pub codegen_from_lists-codegen_from_branch-e-requires : goal.codegen_from_lists-codegen_from_branch-e-requires
+unfolding both
+codegen_from_lists-codegen_from_branch-e-requires t c =
+    let p = c.requires in
+    let r = c.codegen_from_branch-t.ensures _ _ _ p.few p.then-held in
+    (omega arith, (record { known = p.known; block = p.no; last = p.last; held = starts (sym r.node-is) p.else-held; inside = p.inside; short = p.short; few = p.few; shallow = omega arith; ample = omega (arith, r.spent) }, p.few-else))
+
+pub codegen_from_lists-put_section-requires : goal.codegen_from_lists-put_section-requires
+unfolding both
+codegen_from_lists-put_section-requires t c =
+    let p = c.requires in
+    let r = c.codegen_from_branch-t.ensures _ _ _ p.few p.then-held in
+    let u = (c.codegen_from_branch-e.ensures _ _ _ p.few (starts (sym r.node-is) p.else-held)).spent in
+    omega (arith, r.spent)
+
+pub codegen_from_lists-returns : goal.codegen_from_lists-returns
+unfolding both
+codegen_from_lists-returns t c = λ m x y j z h q1 q2.
+    let r1 = c.codegen_from_branch-t.ensures m x j h q1 in
+    let r2 = c.codegen_from_branch-e.ensures m y z h (starts (sym r1.node-is) q2) in
+    record {
+      mid-counters = _;
+      mid-tables = _;
+      mid-sections = _;
+      end-sections = _;
+      yes = r1.does;
+      no = r2.does;
+      join = stored-empty c.put_section.ensures (rw c.successor.ensures);
+      spent = omega (arith, r1.spent, r2.spent);
+    }
+
+-- ---- a statement
+
+pub codegen_from_stmt-codegen_from_own-d-requires : goal.codegen_from_stmt-codegen_from_own-d-requires
+codegen_from_stmt-codegen_from_own-d-requires t c =
+    let p = c.requires in
+    let wd = some-width p.block (not_end p.held (λ z. omega arith)) in
+    record { depth = _; list = p; placed = omega arith }
+
+pub codegen_from_stmt-codegen_from_inside-requires : goal.codegen_from_stmt-codegen_from_inside-requires
+codegen_from_stmt-codegen_from_inside-requires t c =
+    let p = c.requires in
+    let op = rw (one_only p.held) at (one-parts p.block) in
+    let os = (c.codegen_from_own-d.ensures _ _ _ p.few p.held).spent in
+    (omega arith, record { known = p.known; block = p.block; last = p.last; held = p.held; inside = p.inside; short = p.short; few = p.few; shallow = p.shallow; ample = omega arith })
+
+pub codegen_from_stmt-returns : goal.codegen_from_stmt-returns
+codegen_from_stmt-returns t c = λ m x z h q.
+    let o = one_only q in
+    let op = rw o at (one-parts x) in
+    let ow = c.codegen_from_own-d.ensures m x z h q in
+    let il = c.codegen_from_inside.ensures m x z h q in
+    record { does = lists-one x o (not_end q (λ y. omega arith)) ow.does il.does; spent = omega (arith, ow.spent, il.spent); node-is = refl; number_is = refl }
