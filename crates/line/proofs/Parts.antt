@@ -11,7 +11,7 @@ use Rattle.rules.specs.Tree.{Block, end, ite, assign, ofBlock, statement, node, 
 use Rattle.rules.specs.Instr.{Instruction}
 use Rattle.rules.specs.Word.{insWord, runWord}
 use Rattle.rules.specs.Machine.{SectionCode, section, absent}
-use Rattle.rules.specs.Tables.{run_of, runWords, allCode}
+use Rattle.rules.specs.Tables.{runWords, allCode}
 use Rattle.rules.specs.Assemble.{stmtSections, sectionsMade, entry, asStart}
 use Rattle.rules.specs.CodegenData.{CodegenData}
 use Rattle.rules.specs.Annotate.{annotateStmts}

@@ -104,15 +104,12 @@ expr-costs {t} {i = i} {j = j} a c (at-string n p x l w y k q) =
     let u = unpacked stringKind 0 n p _ 0 _ (omega arith) w in
     node-one t i j l ∙ cost-of _ stringKind 0 n 1 u.kind-is u.op-is u.name-is refl
 
--- a turn of the loop, and its end
+-- a turn of the loop
 pub next-sum : (t : List ℕ) (i k n w : ℕ) → i ≤ k → n ≡ costs t i (k - i) → w ≡ nodeCost (get_or t k 0) → n + w ≡ costs t i (k + 1 - i)
 next-sum t i k n w h p q =
     let e : k + 1 - i ≡ k - i + 1 = omega arith in
     let f : i + (k - i) ≡ k = omega arith in
     rw e (omega (arith, costs-more t i (k - i), ap (λ (x : ℕ). nodeCost (get_or t x 0)) f))
-
-pub whole_sum : (t : List ℕ) (i j k n : ℕ) → k ≤ j → j ≤ k → n ≡ costs t i (k - i) → n ≡ costs t i (j - i)
-whole_sum t i j k n p q h = let e : j ≡ k = omega arith in rw e h
 
 -- ---- statements
 

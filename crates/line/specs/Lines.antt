@@ -4,7 +4,7 @@ use Rattle.std.proofs.lemmas.List.Edits.{sets}
 use Rattle.rules.specs.Word.{insWord}
 use Rattle.rules.specs.Constants.{mostBytes}
 use Rattle.rules.specs.Tree.{Block, Tally, ofBlock}
-use Rattle.rules.specs.Machine.{SectionCode, line}
+use Rattle.rules.specs.Machine.{SectionCode}
 use Rattle.rules.specs.Tables.{runWords, allCode}
 use Rattle.rules.specs.Script.{Stmts}
 use Rattle.rules.specs.Assemble.{stmtSections, head_of, tailOf}

@@ -17,9 +17,11 @@ use nodes::layout::{KINDS, LAST, NAME, NAMES, OP, OPS};
 
 // Of an operator.
 
+#[tactic(auto, unfolding(rules::specs::Parse::binops, codegen::specs::Costs::binopCost))]
 fn binop_cost(op: u64) -> usize
     requires { op < 16 }
-    ensures { result ≡ binopCost (get_or binops op Gt) }
+    ensures is { result ≡ binopCost (get_or binops op Gt) }
+    ensures most { result ≤ 7 }
 {
     match op {
         0 => 4,
@@ -35,9 +37,11 @@ fn binop_cost(op: u64) -> usize
     }
 }
 
+#[tactic(auto, unfolding(rules::specs::Parse::unops, codegen::specs::Costs::unopCost))]
 fn unop_cost(op: u64) -> usize
     requires { op < 16 }
-    ensures { result ≡ unopCost (get_or unops op Atan) }
+    ensures is { result ≡ unopCost (get_or unops op Atan) }
+    ensures most { result ≤ 4 }
 {
     match op {
         1 => 2,
@@ -45,9 +49,11 @@ fn unop_cost(op: u64) -> usize
     }
 }
 
+#[tactic(auto, unfolding(rules::specs::Parse::assignops, stmts::specs::Told::assignCost))]
 fn assign_cost(op: u64) -> usize
     requires { op < 16 }
-    ensures { result ≡ assignCost (get_or assignops op PowTo) }
+    ensures is { result ≡ assignCost (get_or assignops op PowTo) }
+    ensures most { result ≤ 8 }
 {
     match op {
         0 => 1,
@@ -60,6 +66,7 @@ fn assign_cost(op: u64) -> usize
 }
 
 // Of a node without its operands and lists.
+#[tactic(auto, unfolding(crate::specs::Costs::nodeCost, crate::specs::Costs::kindCost, stmts::specs::Makes::jumpCost))]
 pub fn node_cost(w: u64) -> usize
     ensures is { result ≡ nodeCost w }
     ensures most { result ≤ 9 }

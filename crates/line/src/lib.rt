@@ -1,3 +1,5 @@
 // Lowering of a line, and how many instructions its first section takes.
+#![tactic(auto)]
+
 pub mod heads;
 pub mod line;
