@@ -6,7 +6,7 @@ use native.Mathlib.Omega.{arith}
 use native.Mathlib.Numerals.{sub-one}
 use borrow.Author.Tests.{eq-eqb, ne_eqb, lt-ltb, le-ltb, le-leb, lt-leb}
 use lib.Dec.{eqb, ltb}
-use lib.ListN.{length, get_or, set}
+use lib.ListN.{length, set}
 use Rattle.rules.specs.Constants.{mostBytes, mostDepth, form, head_bits, nameBits, byteBits}
 use Rattle.rules.specs.Refusal.{otherForm, zeroLines, leftOver, tooLong}
 use Rattle.rules.specs.Bits.{Res, refused, ok}
@@ -16,7 +16,6 @@ use Rattle.rules.specs.Operations.{size, size_of}
 use Rattle.bits.specs.Reads.{Gives, Fine, Took, at}
 use Rattle.bits.specs.declared.Cursor.{Cursor}
 use Rattle.names.specs.Names.{firstName, names_at, end_at, NamedAll}
-use Rattle.nodes.specs.Holds.{HoldsB}
 use Rattle.nodes.specs.Builds.{listR, Built, heldB, countB}
 use Rattle.tree.specs.declared.SizeAnswer.{SizeAnswer}
 use Rattle.tree.specs.declared.SizeAnswer.TheVariants.{Sized, Refused as No}
@@ -248,23 +247,6 @@ pub size-from : {s t ls : List ℕ} {r : SizeAnswer} → TreeRead s t ls r → s
 unfolding size
 size-from {s = s} {r = Sized z} h = rw (h.here.parses, size) (ap ok h.here.size_is)
 size-from {s = s} {r = No k} h = rw (h.here, size)
-
--- ---- a line by its word
-
-pub record IsLine (t ls s : List ℕ) (m k i : ℕ) (xs : List Block) (k' j : ℕ) : Type 0 where
-  pub b : Block
-  pub bs : List Block
-  pub n : ℕ
-  pub last : ℕ
-  pub is : xs ≡ (b ∷ bs)
-  pub few : n < 64
-  pub word : get_or ls k 0 ≡ lineWord n i
-  pub list : HoldsB t s m n i b last
-  pub others : HoldsL t ls s m (k + 1) last bs k' j
-
-pub is-line : {t ls s : List ℕ} {m k i k' j : ℕ} {xs : List Block} → k < k' → HoldsL t ls s m k i xs k' j → IsLine t ls s m k i xs k' j
-is-line h (no_line p q) = absurd (omega arith)
-is-line h (a-line n f w b p l) = record { b = _; bs = _; n = n; last = _; is = refl; few = f; word = w; list = b; others = rw (← p) l }
 
 -- ---- at most one: lines that the tables hold from one line and node to the same line are the same
 lines-le : {t ls s : List ℕ} {m k i k' j : ℕ} {xs : List Block} → HoldsL t ls s m k i xs k' j → k ≤ k'
