@@ -1,6 +1,6 @@
 -- `clean` of the rules at each way out of the code. Assumes nothing.
 use mathlib.Core.Path.{◌≡◌, sym, ap, ◌∙◌}
-use mathlib.Core.Bool.{Bool, true, false}
+use mathlib.Core.Bool.{true, false}
 use mathlib.Core.List.{List, map}
 use Prim.Native.Nat.{ℕ, ◌^◌, ◌<◌, ◌≤◌}
 use lib.IntN.{pos}
@@ -13,8 +13,8 @@ use Rattle.rules.specs.Machine.{Machine}
 use Rattle.rules.specs.Tables.{Tables, Counts, allb, fits, countsOf}
 use Rattle.rules.specs.Clean.{cleaned}
 use Rattle.rules.specs.Operations.{put, write, fixedHere, jumpsFixed, cleanIn, clean}
-use Rattle.tables.specs.Runs.{fixed_word, held}
-use Rattle.tables.proofs.Sound.{sound}
+use Rattle.tables.specs.Runs.{fixed_word, held, total}
+use Rattle.tables.proofs.Sound.{sound, counts_kept}
 use Rattle.tables.proofs.Read.{whole-total}
 use Rattle.tables.proofs.Change.{machine_of, change-12, change-no, change-ok, counts_of, written, put_back, strings-back}
 use Rattle.clean.specs.Pass.{jumpIn, Cleaned}
@@ -52,18 +52,21 @@ module _ (t : Tables) (u : Counts) where
   clean-12 e = change-12 t u cleanIn e
 
   module _ (h : fits t u ≡ true) where
+    pub covered : total (take u.sections t.sections) ≡ u.instrs
+    covered = whole-total t u (sound t u h)
+
     lines-known : allb fixedHere (take u.lines (machine_of t u).sections) ≡ allb fixed_word (take u.lines t.sections)
     unfolding held
     lines-known =
         lines_are u.lines (take u.sections t.sections) (take u.instrs t.instrs)
-        ∙ ap (allb fixed_word) (take-take u.lines u.sections t.sections (sound t u h).counts.lines)
+        ∙ ap (allb fixed_word) (take-take u.lines u.sections t.sections (counts_kept t u h).lines)
 
     jumps-known : allb (jumpsFixed (machine_of t u).sections) (machine_of t u).sections ≡ allb (jumpIn t.sections u.sections) (take u.instrs t.instrs)
     unfolding held
     jumps-known =
-        let s = sound t u h in
-        jumps-are (machine_of t u).sections (take u.sections t.sections) (take u.instrs t.instrs) (whole-total t u s ∙ sym (length-take-le u.instrs t.instrs s.counts.instrs))
-        ∙ all-jumps t.sections (take u.instrs t.instrs) u.sections s.counts.sections (take u.instrs t.instrs)
+        let k = counts_kept t u h in
+        jumps-are (machine_of t u).sections (take u.sections t.sections) (take u.instrs t.instrs) (covered ∙ sym (length-take-le u.instrs t.instrs k.instrs))
+        ∙ all-jumps t.sections (take u.instrs t.instrs) u.sections k.sections (take u.instrs t.instrs)
 
     clean-13 : cleanIn t (machine_of t u) ≡ refused Refusal.needsUnfixed → (refused Refusal.needsUnfixed, t) ≡ clean t u
     unfolding clean
@@ -73,27 +76,28 @@ module _ (t : Tables) (u : Counts) where
     unfolding clean
     clean-ok m e = change-ok t u cleanIn h m e
 
-    module _ (a : Bool) (a-is : a ≡ allb fixed_word (take u.lines t.sections)) where
-      pub clean-lines : a ≡ false → (refused Refusal.needsUnfixed, t) ≡ clean t u
+    pub clean-lines : allb fixed_word (take u.lines t.sections) ≡ false → (refused Refusal.needsUnfixed, t) ≡ clean t u
+    unfolding cleanIn
+    clean-lines a = clean-13 (rw (lines-known, a, cleanIn))
+
+    module _ (a : allb fixed_word (take u.lines t.sections) ≡ true) where
+      pub clean-jumps : allb (jumpIn t.sections u.sections) (take u.instrs t.instrs) ≡ false → (refused Refusal.needsUnfixed, t) ≡ clean t u
       unfolding cleanIn
-      clean-lines e = clean-13 (rw (lines-known, ← a-is, e, cleanIn))
+      clean-jumps b = clean-13 (rw (lines-known, a, jumps-known, b, cleanIn))
 
-      module _ (a-true : a ≡ true) (b : Bool) (b-is : b ≡ allb (jumpIn t.sections u.sections) (take u.instrs t.instrs)) where
-        pub clean-jumps : b ≡ false → (refused Refusal.needsUnfixed, t) ≡ clean t u
+      module _ (b : allb (jumpIn t.sections u.sections) (take u.instrs t.instrs) ≡ true) where
+        done : (ok (countsOf (cleaned (machine_of t u))), write u (cleaned (machine_of t u)) t) ≡ clean t u
         unfolding cleanIn
-        clean-jumps e = clean-13 (rw (lines-known, ← a-is, a-true, jumps-known, ← b-is, e, cleanIn))
+        done = clean-ok (cleaned (machine_of t u)) (rw (lines-known, a, jumps-known, b, cleanIn))
 
-        module _ (b-true : b ≡ true) where
-          done : (ok (countsOf (cleaned (machine_of t u))), write u (cleaned (machine_of t u)) t) ≡ clean t u
-          unfolding cleanIn
-          done = clean-ok (cleaned (machine_of t u)) (rw (lines-known, ← a-is, a-true, jumps-known, ← b-is, b-true, cleanIn))
+        module _ (small : (i : ℕ) → get_or t.strings i 0 < 2 ^ 32) (ss is : List ℕ) (m n : ℕ) (c : Cleaned t.sections t.instrs ss is u.sections u.instrs m n) where
+          others : Others t u
+          others =
+              let s = sound t u h in
+              let k = s.counts in
+              record { numbers = k.numbers; strings = k.strings; pool = k.pool; names = k.names; plain = strings-back t u s small }
 
-          module _ (small : (i : ℕ) → get_or t.strings i 0 < 2 ^ 32) (ss is : List ℕ) (m n : ℕ) (c : Cleaned t.sections t.instrs ss is u.sections u.instrs m n) where
-            others : Others t u
-            others =
-                let s = sound t u h in
-                let k = s.counts in
-                record { numbers = k.numbers; strings = k.strings; pool = k.pool; names = k.names; plain = strings-back t u s small }
+          pub clean-done : (ok (record { lines = u.lines; sections = m; instrs = n; numbers = u.numbers; strings = u.strings; pool = u.pool; names = u.names; values = u.values }), record { sections = ss; instrs = is; numbers = t.numbers; strings = t.strings; pool = t.pool; names = t.names }) ≡ clean t u
+          clean-done = rw (← cleaned-counts t u others ss is m n c, ← cleaned-words t u others ss is m n c) done
 
-            pub clean-done : (ok (record { lines = u.lines; sections = m; instrs = n; numbers = u.numbers; strings = u.strings; pool = u.pool; names = u.names; values = u.values }), record { sections = ss; instrs = is; numbers = t.numbers; strings = t.strings; pool = t.pool; names = t.names }) ≡ clean t u
-            clean-done = rw (← cleaned-counts t u others ss is m n c, ← cleaned-words t u others ss is m n c) done
+pub ruleset ways = (clean-12, clean-lines, clean-jumps, clean-done, counts_kept)

@@ -46,6 +46,7 @@ fn jumps_fixed(sections: &[u64], n: usize, t: &[u64], e: usize) -> bool
     true
 }
 
+#[tactic(auto, using(crate::proofs::Cleans::ways))]
 pub fn clean(
     c: Counts,
     sections: &mut [u64],

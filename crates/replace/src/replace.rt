@@ -19,6 +19,7 @@ fn slots(n: usize, len: usize) -> bool
     (n <= len) & (n <= Counts::MOST)
 }
 
+#[tactic(auto, using(tables::proofs::Sound::counts_kept))]
 pub fn replace(
     c: Counts,
     sections: &mut [u64],

@@ -123,3 +123,7 @@ module _ (t : Tables) (u : Counts) where
       w.1
       in
       record { counts = counted t u w.0; instrs = s.0; runs = s.1.0; spans = s.1.1.0; names = s.1.1.1.0 }
+
+  -- the counts alone
+  pub counts_kept : fits t u ≡ true → Counted t u
+  counts_kept h = (sound h).counts

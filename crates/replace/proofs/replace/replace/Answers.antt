@@ -1,20 +1,10 @@
 -- The ways out of `replace`; the check gives the counts' bounds.
-use Rattle.std.proofs.Common.{ℕ, ◌<◌, ◌^◌, get_or, sym, ◌∙◌, arith, rules}
-use Rattle.tables.proofs.Sound.{sound}
+use Rattle.std.proofs.Common.{ℕ, ◌<◌, ◌^◌, get_or, sym, ◌∙◌, rules}
 use Rattle.replace.proofs.Replaces.{replace-12, replace-11, ready, replace-done}
 use Rattle.replace.proofs.replace.replace.Goals as goal
 
 pub returns-then-not-check : goal.returns-then-not-check
 returns-then-not-check c = replace-12 _ _ (sym c.check.ensures ∙ c.if-not-check.true)
-
-pub additions-added-requires : goal.additions-added-requires
-additions-added-requires c = (sound _ _ (sym c.check.ensures ∙ c.if-not-check.false)).counts.instrs
-
-pub overflow_add-c : goal.overflow_add-c
-overflow_add-c c = let k = (sound _ _ (sym c.check.ensures ∙ c.if-not-check.false)).counts in omega (arith, k.numbers-few, k.instrs-few)
-
-pub overflow_add-c-2 : goal.overflow_add-c-2
-overflow_add-c-2 c = let k = (sound _ _ (sym c.check.ensures ∙ c.if-not-check.false)).counts in omega (arith, k.strings-few, k.instrs-few)
 
 pub returns-then-not-fits : goal.returns-then-not-fits
 returns-then-not-fits c =

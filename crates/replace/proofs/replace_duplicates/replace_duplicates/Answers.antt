@@ -6,15 +6,8 @@ use Rattle.replace.proofs.replace_duplicates.replace_duplicates.Goals as goal
 pub loop-i-init : goal.loop-i-init
 loop-i-init c = sections-begin _ _ _ _ _ _ _ _ _ c.requires
 
-pub overflow_add-to : goal.overflow_add-to
-overflow_add-to c = let x = fits _ _ _ _ _ _ _ _ _ c.requires _ _ _ _ _ _ _ _ _ c.loop-i.invariant c.loop-i-test.true _ c.count.ensures in omega (arith, c.requires.instrs-few)
-
 pub replace_run-done-requires : goal.replace_run-done-requires
 replace_run-done-requires c = sections-open _ _ _ _ _ _ _ _ _ c.requires _ _ _ _ _ _ _ _ _ c.loop-i.invariant c.loop-i-test.true _ c.count.ensures
-
-pub overflow_cast-first : goal.overflow_cast-first
-overflow_cast-first c =
-    let x = fits _ _ _ _ _ _ _ _ _ c.requires _ _ _ _ _ _ _ _ _ c.loop-i.invariant c.loop-i-test.true _ c.count.ensures in omega (arith, c.requires.instrs-few, c.loop-i.invariant.b-a)
 
 pub overflow_cast-count : goal.overflow_cast-count
 overflow_cast-count c =
@@ -25,11 +18,6 @@ pub loop-i-preserved : goal.loop-i-preserved
 loop-i-preserved c =
     let k = c.replace_run-done.auto in
     sections-more _ _ _ _ _ _ _ _ _ c.requires _ _ _ _ _ _ _ _ _ c.loop-i.invariant c.loop-i-test.true _ c.count.ensures _ _ _ _ _ _ c.replace_run-done.ensures k.instructions k.numbers k.strings _ _ _ _ c.pack-v.ensures c.line_start.ensures c.success.ensures refl
-
-pub zero-requires : goal.zero-requires
-zero-requires c =
-    let w = sections-end _ _ _ _ _ _ _ _ _ c.requires _ _ _ _ _ _ _ _ _ c.loop-i.invariant c.loop-i-test.false in
-    (w.shorter, omega (arith, c.loop-i.invariant.is-len, c.requires.instrs))
 
 pub returns : goal.returns
 returns c =
