@@ -23,10 +23,6 @@ use Rattle.walks.specs.DemandProof.{strings-stay, length-spans}
 use Rattle.walks.specs.Parsed.{refused≢ok}
 use Rattle.walks.specs.Bounds.{small}
 use Rattle.walks.specs.Calls.{Finishes, finishes}
-use Rattle.tables.specs.Lent.{countsTold, answerTold}
-use Rattle.tables.specs.declared.answer.Answer.{Answer}
-use Rattle.tables.specs.declared.answer.Answer.TheVariants.{Done, Refused}
-use Rattle.tables.specs.declared.counts.Counts.{Counts as Lent}
 use Rattle.tables.proofs.Sound.{sound}
 use Rattle.tables.proofs.Change.{machine_of}
 use Rattle.listing.specs.Wrote.{Room, Wrote, Prints}
@@ -34,7 +30,7 @@ use Rattle.listing.specs.Listed.{Lists, Listed}
 use Rattle.listing.proofs.Writes.{from_start}
 use Rattle.listing.proofs.Machines.{one-machine}
 use Rattle.printed.specs.Printed.{mostCharacters, printed, Bounded}
-use Rattle.printed.proofs.Lengths.{mostPrinted, refusal-length, listing-length}
+use Rattle.printed.proofs.Lengths.{mostPrinted, refusal_length, listing-length}
 
 -- ---- words that hold a machine keep the rules
 
@@ -81,15 +77,6 @@ module _ (s : List ℕ) (t t' : Tables) (u : Counts) (e : (ok u, t') ≡ finish 
       by-room true q = rw (tree_is.parsed, printed, q)
       by-room false q = absurd (refused≢ok Refusal.noRoom u (sym (ap (λ (z : Res Counts × Tables). z.0) (rw (tree_is.parsed, build, q) at e))))
 
--- ---- the code's answer
-
-module _ (a : Answer) (t : Tables) (z : Res Counts × Tables) (e : (answerTold a, t) ≡ z) where
-  pub told-refused : (n : ℕ) → a ≡ Refused n → (refused n, t) ≡ z
-  told-refused n h = ap (λ (x : Answer). (answerTold x, t)) (sym h) ∙ e
-
-  pub told-done : (c : Lent) → a ≡ Done c → (ok (countsTold c), t) ≡ z
-  told-done c h = ap (λ (x : Answer). (answerTold x, t)) (sym h) ∙ e
-
 -- the tables that bound a listing are as long as they were
 pub record SameLengths (t t' : Tables) : Type 0 where
   pub sections : length t'.sections ≡ length t.sections
@@ -102,7 +89,7 @@ pub prints-as : {o o' : List ℕ} {r : ℕ} {bs cs : List ℕ} → Prints o o' r
 prints-as {o} {o'} {r} p e = subst (Prints o o' r) e p
 
 pub refusal-room : (o : List ℕ) (n : ℕ) → length o ≡ mostPrinted → Room o 0 (refusal n)
-refusal-room o n h = let l = refusal-length n in omega arith
+refusal-room o n h = let l = refusal_length n in omega arith
 
 pub refusal-prints : {o o' bs : List ℕ} {r : ℕ} (n : ℕ) → length o ≡ mostPrinted → Wrote o o' 0 r (refusal n) → refusal n ≡ bs → Prints o o' r bs
 refusal-prints {o} n h w e = prints-as (from_start w (refusal-room o n h)) e

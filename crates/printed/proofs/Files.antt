@@ -26,7 +26,7 @@ use Rattle.tree.specs.Files.{sized}
 use Rattle.tree.specs.declared.Sizes.{Sizes}
 use Rattle.tables.specs.Lent.{tables}
 use Rattle.tables.proofs.Sound.{no}
-use Rattle.printed.specs.Printed.{mostCharacters, printed, Bounded, SizedRoom}
+use Rattle.printed.specs.Printed.{mostCharacters, printed, SizedRoom}
 
 -- ---- longer than finlist reads, or refused
 
@@ -90,7 +90,7 @@ all-of-it a b c false e f p q r = absurd (no p)
 all-of-it a b c true false f p q r = absurd (no q)
 all-of-it a b c true true false p q r = absurd (no r)
 
-module _ (s : List ℕ) (z : Sizes) (ss is : List ℕ) (ns : List ℤ) (ts p xs : List ℕ) (h : SizedRoom s z (tables ss is ns ts p xs)) where
+module _ {s : List ℕ} {z : Sizes} {ss is : List ℕ} {ns : List ℤ} {ts p xs : List ℕ} (h : SizedRoom s z (tables ss is ns ts p xs)) where
   pub strings-fit : z.strings ≤ length ts
   strings-fit = let a = few-strings s z h.file.size_is in let b = h.strings in omega arith
 
@@ -111,17 +111,6 @@ module _ (s : List ℕ) (z : Sizes) (ss is : List ℕ) (ns : List ℤ) (ts p xs 
 
   abbrev lent : Tables
   lent = tables ss is ns (take z.strings ts) (take z.characters p) (take z.names xs)
-
-  pub lent-bounded : Bounded lent
-  lent-bounded =
-      let a = strings-are in
-      let b = few-strings s z h.file.size_is in
-      let c = names-are in
-      let d = few-names s z h.file.size_is in
-      let e = h.sections in
-      let f = h.instrs in
-      let g = h.numbers in
-      record { sections = omega arith; instrs = omega arith; numbers = omega arith; strings = omega arith; names = omega arith }
 
   same_test : (x : Tree) → sized z ≡ size_of x → holds lent (estimate (size_of x)) ≡ fitsFinlist (estimate (size_of x))
   unfolding holds fitsFinlist estimate

@@ -77,13 +77,9 @@ text-length (c ∷ s) = let h = hex-length (c ∷ s) in omega arith
 
 -- ---- rows
 
-row-length : (l : ℕ) (s : List ℕ) → length (row l s) ≡ 2 + length s
-unfolding row
-row-length l s = simp length-append (omega arith)
-
-pub refusal-length : (n : ℕ) → length (refusal n) ≤ 23
-unfolding refusal
-refusal-length n = let h = num-length n in rw (row-length 82 (nat n)) (omega arith)
+pub refusal_length : (n : ℕ) → length (refusal n) ≤ 23
+unfolding refusal row
+refusal_length n = let h = num-length n in simp length-append (omega arith)
 
 -- from row i on; the last is below 65,536
 
@@ -94,7 +90,7 @@ numbers-length i (z ∷ zs) l =
     let a = num-few i (omega arith) in
     let b = int-length z in
     let h = numbers-length (suc i) zs (omega arith) in
-    simp (length-append, row-length) (omega arith)
+    simp length-append (omega arith)
 
 -- texts that stand end to end
 texts-length : (pool : List ℕ) (i p : ℕ) (ts : List (List ℕ)) → i + length ts ≤ 65536 → length (texts ts) ≤ 65535 → length (rowsT pool i (spans p ts)) ≤ 16 * length ts + 2 * length (texts ts)
@@ -108,7 +104,7 @@ texts-length pool i p (t ∷ ts) l m =
     let c = text-length s in
     let d : length s ≤ length t = omega (arith, length-take (length t) (drop p pool)) in
     let h = texts-length pool (suc i) (p + length t) ts (omega arith) (omega arith) in
-    simp (length-append, row-length) (omega arith)
+    simp length-append (omega arith)
 
 names-length : (i : ℕ) (vs : List ℕ) → i + length vs ≤ 65536 → length (rowsV i vs) ≤ 29 * length vs
 unfolding rowsV
@@ -117,7 +113,7 @@ names-length i (v ∷ vs) l = by (eqb v mark) refl (names-length (suc i) vs (ome
   where
     by : (b : Bool) → eqb v mark ≡ b → length (rowsV (suc i) vs) ≤ 29 * length vs → length (rowsV i (v ∷ vs)) ≤ 29 * suc (length vs)
     by true e h = rw (e, rowsV) (omega arith)
-    by false e h = let a = num-few i (omega arith) in let b = num-length v in rw (e, rowsV) (simp (length-append, row-length) (omega arith))
+    by false e h = let a = num-few i (omega arith) in let b = num-length v in rw (e, rowsV) (simp length-append (omega arith))
 
 instrs-length : (ws : List ℕ) → length (rowsI (map wordIns ws)) ≤ 26 * length ws
 unfolding rowsI
@@ -130,7 +126,7 @@ instrs-length (w ∷ ws) =
     let c = num-few i.snd (omega (arith, s.1.1.0)) in
     let d = num-few i.thd (omega (arith, s.1.1.1.0)) in
     let h = instrs-length ws in
-    simp (length-append, row-length) (omega arith)
+    simp length-append (omega arith)
 
 -- the section of word w, whose instructions are the first of the words is
 section-length : (i w : ℕ) (is : List ℕ) (ss : List SectionCode) → i < 65536 → length (rowsS i (sectionOf w is ∷ ss)) ≤ 47 + 26 * length (take (wordRun w).count is) + length (rowsS (suc i) ss)
@@ -147,7 +143,7 @@ section-length i w is ss l =
     let d = num-length (target_of (successOf r)) in
     let e = num-few (length (map wordIns t)) (omega arith) in
     let h = instrs-length t in
-    simp (length-append, row-length) (omega arith)
+    simp length-append (omega arith)
 
 no_rows : (j : ℕ) → rowsS j [] ≡ []
 unfolding rowsS
@@ -192,4 +188,4 @@ module _ (t : Tables) (u : Counts) (h : fits t u ≡ true) (ts : List (List ℕ)
       let s : length (rowsT m.pool 0 m.strings) ≤ 16 * length ts + 2 * length (texts ts) = rw are (texts-length m.pool 0 0 ts (omega arith) few) in
       let v = names-length 0 m.names (omega (arith, names-few)) in
       let w = sections-length 0 (take u.sections t.sections) (take u.instrs t.instrs) (omega arith) in
-      simp (length-append, row-length) (omega arith)
+      simp length-append (omega arith)

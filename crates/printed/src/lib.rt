@@ -1,5 +1,7 @@
 // What finlist prints for a file, as bytes: shown equal to `finlist` of `rules`, with every byte behind them as it was. The lent array is as long
 // as the longest listing, so `finlist` asks nothing.
+#![tactic(auto)]
+
 ghost use Rattle.rules.specs.Listing as Listing;
 ghost use Rattle.tables.specs.Lent.{tables};
 ghost use Rattle.listing.specs.Wrote.{Prints};
@@ -44,6 +46,7 @@ pub const MOST_PRINTED: usize = 107
     + 26 * INSTRUCTIONS;
 
 // The rows of a file's finished machine in lent tables.
+#[tactic(auto, using(crate::proofs::Lengths::refusal_length))]
 fn print_in(
     out: &mut [u8; MOST_PRINTED],
     input: &[u8],
@@ -140,6 +143,7 @@ fn print_tree(out: &mut [u8; MOST_PRINTED], input: &[u8], z: Sizes) -> usize
 }
 
 // Answers how many bytes are printed.
+#[tactic(auto, using(crate::proofs::Lengths::refusal_length))]
 pub fn finlist(input: &[u8], out: &mut [u8; MOST_PRINTED]) -> usize
     ensures { Prints out.old out.new result (Listing.finlist input.now) }
 {
