@@ -22,6 +22,7 @@ fn options_of(n: u64) -> CodegenOptions
 
 // Lowers a tree file.
 #[unsafe(no_mangle)]
+#[tactic(auto, unfolding(crate::specs::Calls::changeCall))]
 pub extern "C" fn sezkibalo_lower(
     tree: &[u8],
     options: u64,
@@ -45,6 +46,7 @@ pub extern "C" fn sezkibalo_lower(
 
 // Lowers a tree file, and cleans and combines its machine.
 #[unsafe(no_mangle)]
+#[tactic(auto, unfolding(crate::specs::Calls::changeCall))]
 pub extern "C" fn sezkibalo_finish(
     tree: &[u8],
     options: u64,

@@ -2,6 +2,8 @@
 //
 // Each function is shown to give what its definition in specs/Calls says, in which the definitions of `rules` are the answer and every lent word.
 // None asks anything of its caller.
+#![tactic(auto)]
+
 pub mod build;
 pub mod counts;
 
@@ -37,6 +39,7 @@ fn spot(start: usize, length: usize) -> u64
 
 // Lines, names, statements, nodes, strings and characters of a tree file; or the number that refuses it.
 #[unsafe(no_mangle)]
+#[tactic(auto, unfolding(crate::specs::Calls::sizeCall))]
 pub extern "C" fn sezkibalo_size(tree: &[u8], counts: &mut [u64]) -> u64
     ensures { (result, counts.new) ≡ sizeCall tree.now counts.old }
 {
@@ -55,6 +58,7 @@ pub extern "C" fn sezkibalo_size(tree: &[u8], counts: &mut [u64]) -> u64
 
 // Replaces the duplicate operands of a machine.
 #[unsafe(no_mangle)]
+#[tactic(auto, unfolding(crate::specs::Calls::changeCall))]
 pub extern "C" fn sezkibalo_replace(
     counts: &mut [u64],
     sections: &mut [u64],
@@ -76,6 +80,7 @@ pub extern "C" fn sezkibalo_replace(
 
 // Removes the unfixed sections of a machine.
 #[unsafe(no_mangle)]
+#[tactic(auto, unfolding(crate::specs::Calls::changeCall))]
 pub extern "C" fn sezkibalo_clean(
     counts: &mut [u64],
     sections: &mut [u64],
@@ -97,6 +102,7 @@ pub extern "C" fn sezkibalo_clean(
 
 // Joins the sections of a machine until no pair is left.
 #[unsafe(no_mangle)]
+#[tactic(auto, unfolding(crate::specs::Calls::changeCall))]
 pub extern "C" fn sezkibalo_combine(
     counts: &mut [u64],
     sections: &mut [u64],
@@ -118,6 +124,7 @@ pub extern "C" fn sezkibalo_combine(
 
 // The place of a string register's text in the pool, start × 2^32 + length; empty, at the pool's end, where register or word is bad.
 #[unsafe(no_mangle)]
+#[tactic(auto, unfolding(rules::specs::Operations::textSpot))]
 pub extern "C" fn sezkibalo_text(strings: &[u32], pool: &[u8], register: u64) -> u64
     ensures { result ≡ Operations.textSpot strings.now pool.now register }
 {
