@@ -1,6 +1,6 @@
 -- Words of names, one by one. Assumes nothing.
 use mathlib.Core.Path.{◌≡◌, refl, sym, ap, ◌∙◌}
-use mathlib.Core.Bool.{Bool, true, false, not}
+use mathlib.Core.Bool.{true, false}
 use mathlib.Core.List.{List, [], ◌∷◌, ◌++◌, map}
 use mathlib.Core.Option.{Option, none, some}
 use Prim.Native.Nat.{ℕ, zero, suc, ◌+◌, ◌≤◌, ◌<◌}
@@ -18,28 +18,16 @@ use Rattle.program.specs.Names.{words_to, WordsTo}
 
 -- ---- cleared
 
-pub clear-more : (l : List ℕ) (k : ℕ) → k < length l → set (map regWord (replicate k none) ++ drop k l) k mark ≡ map regWord (replicate (k + 1) none) ++ drop (k + 1) l
+pub clear_more : (l : List ℕ) (k : ℕ) → k < length l → set (map regWord (replicate k none) ++ drop k l) k mark ≡ map regWord (replicate (k + 1) none) ++ drop (k + 1) l
 unfolding regWord
-clear-more l k h = rw add-one (go l k h)
+clear_more l k h = rw add-one (go l k h)
   where
     go : (l : List ℕ) (k : ℕ) → k < length l → set (map regWord (replicate k none) ++ drop k l) k mark ≡ map regWord (replicate (suc k) none) ++ drop (suc k) l
     go [] k h = absurd (omega arith)
     go (x ∷ l) zero h = refl
     go (x ∷ l) (suc k) h = ap (λ m. mark ∷ m) (go l k (omega arith))
 
-pub clear-done : (l t : List ℕ) (n k : ℕ) → n ≤ k → k ≤ n → t ≡ map regWord (replicate k none) ++ drop k l → t ≡ map regWord (replicate n none) ++ drop n l
-clear-done l t n k h g e = let i : n ≡ k = omega arith in rw i e
-
 -- ---- protected
-
--- the test of the code
-pub not_flag : {b p : Bool} → b ≡ p → not b ≡ true → p ≡ false
-not_flag {b = true} e h = absurd (let z : ◌≡◌ {A = ℕ} 0 1 = cc in omega arith)
-not_flag {b = false} e h = sym e
-
-pub is-flag : {b p : Bool} → b ≡ p → not b ≡ false → p ≡ true
-is-flag {b = true} e h = sym e
-is-flag {b = false} e h = absurd (let z : ◌≡◌ {A = ℕ} 0 1 = cc in omega arith)
 
 -- a protected name keeps its word
 keeps : (o : Options) (s : List ℕ) (n k p : ℕ) (vs : List (Option ℕ)) → length vs ≡ n → protects o (name_at s (end_at s k p)).isGlobal ≡ true → words_to o k (names_at s n p) vs ≡ words_to o (suc k) (names_at s n p) vs
@@ -64,8 +52,8 @@ module _ {o : Options} {s : List ℕ} {n k : ℕ} {t t' : List ℕ} (w : WordsTo
   pub word_kept : protects o (name_at s (end_at s k firstName)).isGlobal ≡ true → WordsTo o s n (k + 1) t t'
   word_kept e = record { are = λ x vs rest p l m i. w.are x vs rest p l m i ∙ rw (p.are, l, add-one) (ap (λ z. z ++ rest) (keeps o s n k firstName vs m e)) }
 
-  pub word-dropped : k < n → protects o (name_at s (end_at s k firstName)).isGlobal ≡ false → WordsTo o s n (k + 1) t (set t' k mark)
-  word-dropped h e = record { are = λ x vs rest p l m i. rw (w.are x vs rest p l m i, p.are, l, add-one) (drops o s n k firstName vs rest m h e) }
+  pub word_dropped : k < n → protects o (name_at s (end_at s k firstName)).isGlobal ≡ false → WordsTo o s n (k + 1) t (set t' k mark)
+  word_dropped h e = record { are = λ x vs rest p l m i. rw (w.are x vs rest p l m i, p.are, l, add-one) (drops o s n k firstName vs rest m h e) }
 
 pub no_word : (o : Options) (s : List ℕ) (n : ℕ) (t : List ℕ) → WordsTo o s n 0 t t
 unfolding words_to
@@ -81,17 +69,17 @@ words-all o (suc k) [] vs l m = absurd (omega arith)
 words-all o (suc k) (n ∷ ns) [] l m = absurd (omega arith)
 words-all o (suc k) (n ∷ ns) (v ∷ vs) l m = ap (λ z. nameWord (protects o n.isGlobal) v ∷ z) (words-all o k ns vs (omega arith) (omega arith))
 
-pub words-done : {o : Options} {s : List ℕ} {n k : ℕ} {t t' : List ℕ} → WordsTo o s n k t t' → n ≤ k → k ≤ n → (x : List Name) (vs : List (Option ℕ)) (rest : List ℕ) → Placed s x → length x ≡ n → length vs ≡ n → t ≡ map regWord vs ++ rest → t' ≡ nameWords o x vs ++ rest
-words-done {o} {k = k} w h g x vs rest p l m i = w.are x vs rest p l m i ∙ ap (λ z. z ++ rest) (words-all o k x vs (omega arith) (omega arith))
+pub words_done : {o : Options} {s : List ℕ} {n k : ℕ} {t t' : List ℕ} → WordsTo o s n k t t' → n ≤ k → k ≤ n → (x : List Name) (vs : List (Option ℕ)) (rest : List ℕ) → Placed s x → length x ≡ n → length vs ≡ n → t ≡ map regWord vs ++ rest → t' ≡ nameWords o x vs ++ rest
+words_done {o} {k = k} w h g x vs rest p l m i = w.are x vs rest p l m i ∙ ap (λ z. z ++ rest) (words-all o k x vs (omega arith) (omega arith))
 
 -- ---- where they stand
 
 -- the name behind k of n names: its flag and length lie before the end of all
-pub name-inside : (s : List ℕ) (n k p : ℕ) → k < n → end_at s k p + headerBits ≤ end_at s n p
+pub name_inside : (s : List ℕ) (n k p : ℕ) → k < n → end_at s k p + headerBits ≤ end_at s n p
 unfolding end_at
-name-inside s zero k p h = absurd (omega arith)
-name-inside s (suc n) zero p h = omega (arith, end_ge s n (nextName s p), next-gt s p)
-name-inside s (suc n) (suc k) p h = name-inside s n k (nextName s p) (omega arith)
+name_inside s zero k p h = absurd (omega arith)
+name_inside s (suc n) zero p h = omega (arith, end_ge s n (nextName s p), next-gt s p)
+name_inside s (suc n) (suc k) p h = name_inside s n k (nextName s p) (omega arith)
 
-pub name-next : (s : List ℕ) (k p : ℕ) → nextName s (end_at s k p) ≡ end_at s (k + 1) p
-name-next s k p = rw add-one (sym (end_snoc s k p))
+pub name_next : (s : List ℕ) (k p : ℕ) → nextName s (end_at s k p) ≡ end_at s (k + 1) p
+name_next s k p = rw add-one (sym (end_snoc s k p))

@@ -1,20 +1,17 @@
 -- The sections of all lines from those of each, and the whole machine's words from them. Assumes nothing.
 use mathlib.Core.Path.{◌≡◌, refl, sym, ap, ◌∙◌}
-use mathlib.Core.Bool.{Bool, true, false, cond}
+use mathlib.Core.Bool.{true}
 use mathlib.Core.List.{List, [], ◌∷◌, ◌++◌, map}
-use Prim.Native.Nat.{ℕ, suc, ◌+◌, ◌-◌, ◌*◌, ◌/◌, ◌%◌, ◌≤◌, ◌<◌}
+use Prim.Native.Nat.{ℕ, suc, ◌+◌, ◌*◌, ◌/◌, ◌%◌, ◌≤◌, ◌<◌}
 use native.Mathlib.Nat.{add-zero}
 use native.Mathlib.Numerals.{add-one}
 use native.Mathlib.Omega.{arith}
 use lib.ListN.{length, get_or, length-append}
-use lib.Seq.{sets}
-use borrow.Author.Tests.{eq-eqb, ne_eqb}
 use Rattle.rules.specs.Constants.{mostBytes}
-use Rattle.rules.specs.Tree.{Block, end, ofBlock, ofLines, both, emptyTally}
+use Rattle.rules.specs.Tree.{Block, ofBlock, ofLines, both, emptyTally}
 use Rattle.rules.specs.Word.{insWord}
-use Rattle.rules.specs.Machine.{SectionCode, absent}
+use Rattle.rules.specs.Machine.{SectionCode}
 use Rattle.rules.specs.Tables.{runWords, allCode}
-use Rattle.rules.specs.Script.{Stmts, Script}
 use Rattle.rules.specs.Assemble.{stmtSections, sectionsMade, nextLine, head_of, tailOf, heads, tails}
 use Rattle.rules.specs.CodegenData.{CodegenData}
 use Rattle.rules.specs.Annotate.{annotateStmts, annotateLines}
@@ -32,18 +29,10 @@ use Rattle.stmts.proofs.Makes.{regs-moved}
 use Rattle.stmts.proofs.Lists.{all_append, runs_append, runs-length, made-width}
 use Rattle.stmts.specs.Lists.{deep, SameLengths}
 use Rattle.stmts.specs.Parts.{ownCost}
-use Rattle.line.specs.Lines.{innerNodes, Parted, LineSpent, LineWent, LineDone}
-use Rattle.program.specs.Script.{ownCosts, innerAll, deepest, aimedAt, CostsMid, LinesReady, LinesWent, LinesDone, LinesMid}
+use Rattle.line.specs.Lines.{innerNodes, Parted, LineWent, LineDone}
+use Rattle.program.specs.Script.{ownCosts, innerAll, deepest, aimedAt, CostsMid, LinesWent, LinesDone, LinesMid}
 use Rattle.line.proofs.Parts.{own-most}
 use Rattle.program.proofs.Runs.{two_runs}
-
--- ---- the line behind a line
-
-pub last_line : (L k : ℕ) → k + 1 ≡ L → 0 ≡ nextLine L k
-last_line L k e = rw (eq-eqb (suc k) L (sym (add-one k) ∙ e))
-
-pub inner-line : (L k : ℕ) → (k + 1 ≡ L → ⊥) → k + 1 ≡ nextLine L k
-inner-line L k e = rw (ne_eqb (suc k) L (λ h. e (add-one k ∙ h))) (add-one k)
 
 -- ---- the tables of lines
 
@@ -205,13 +194,10 @@ lines_more {m} {L} {k} {k1} x bs cs {n} {n1} {n2} {head} {h1} {h2} {c} {d} {c1} 
 
 -- ---- line by line: the sum of their costs
 
-pub costs-begin : {t ls : List ℕ} {L : ℕ} → CostsMid t ls L 0 0
-costs-begin = record { sums = λ s m bs i z a b h. record { rest = bs; first = i; held = h; all = omega arith } }
-
-pub costs-on : {t ls : List ℕ} {L k sum cost : ℕ} → CostsMid t ls L k sum → k < L
+pub costs_on : {t ls : List ℕ} {L k sum cost : ℕ} → CostsMid t ls L k sum → k < L
     → ((s : List ℕ) (m : ℕ) (x : Block) (z : ℕ) → length s ≤ mostBytes → m ≤ 256 → HoldsB t s m (get_or ls k 0 % 64) (get_or ls k 0 / 64) x z → cost ≡ ownCost x)
     → CostsMid t ls L (k + 1) (sum + cost)
-costs-on c h f =
+costs_on c h f =
     record {
       sums = λ s m bs i z a b q.
           let u = c.sums s m bs i z a b q in
@@ -219,25 +205,20 @@ costs-on c h f =
           record { rest = lh.others; first = lh.last; held = lh.behind; all = omega (arith, u.all, lh.sum.own, f s m lh.block lh.last a b lh.here) };
     }
 
-pub costs-end : {t ls s : List ℕ} {L k sum m i z : ℕ} {bs : List Block} → CostsMid t ls L k sum → k ≡ L → length s ≤ mostBytes → m ≤ 256 → HoldsL t ls s m 0 i bs L z → sum ≡ ownCosts bs
+pub costs_end : {t ls s : List ℕ} {L k sum m i z : ℕ} {bs : List Block} → CostsMid t ls L k sum → k ≡ L → length s ≤ mostBytes → m ≤ 256 → HoldsL t ls s m 0 i bs L z → sum ≡ ownCosts bs
 unfolding ownCosts
-costs-end {sum = sum} c e a b h =
+costs_end {sum = sum} c e a b h =
     let u = c.sums _ _ _ _ _ a b h in
     let n : ownCosts u.rest ≡ 0 = rw (no_lines e u.held).is refl in
     omega (arith, u.all, n)
 
 -- ---- line by line: their sections
 
-pub lines-begin : {s t ls : List ℕ} {L n head : ℕ} {c : Counters} {t0 : Lent} {se : List ℕ}
-    → LinesReady s t ls 0 L n head c (length t0.instrs) (length t0.numbers) (length t0.strings) (length t0.pool) (length t0.names) (length se)
-    → LinesMid s t ls L n head c t0 se 0 n head c t0 se
-lines-begin r = record { ready = r; going = λ m bs i z a h. record { rest = bs; first = i; held = h; goes = λ t2 se2 h2 c2 n2 d. d } }
-
 module _ {s t ls : List ℕ} {L n0 head0 : ℕ} {c0 : Counters} {t0 : Lent} {se0 : List ℕ} {k n head : ℕ} {c : Counters} {t1 : Lent} {se : List ℕ} (mid : LinesMid s t ls L n0 head0 c0 t0 se0 k n head c t1 se) where
-  pub lines-on : {d c1 : Counters} {t2 : Lent} {se2 : List ℕ} {h1 n1 : ℕ} (nl : Section) → k < L → nl.0 ≡ nextLine L k → d ≡ aimedAt c nl → SameLengths t1 t2 se se2
+  pub lines_on : {d c1 : Counters} {t2 : Lent} {se2 : List ℕ} {h1 n1 : ℕ} (nl : Section) → k < L → nl.0 ≡ nextLine L k → d ≡ aimedAt c nl → SameLengths t1 t2 se se2
       → ((m : ℕ) (x : Block) (z : ℕ) → m ≤ 256 → HoldsB t s m (get_or ls k 0 % 64) (get_or ls k 0 / 64) x z → LineDone m x k n head d t1 t2 se se2 h1 c1 n1)
       → LinesMid s t ls L n0 head0 c0 t0 se0 (k + 1) n1 h1 c1 t2 se2
-  lines-on nl h v dd same f =
+  lines_on nl h v dd same f =
       let p = mid.ready in
       let sc = same-counts dd in
       let lh = line-held (λ e. omega arith) p.held in

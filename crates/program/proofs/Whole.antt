@@ -2,17 +2,17 @@
 use mathlib.Core.Path.{◌≡◌, refl, sym, ap, ◌∙◌}
 use mathlib.Core.List.{List, [], ◌∷◌, ◌++◌, map}
 use mathlib.Core.Option.{Option, none, some}
-use Prim.Native.Nat.{ℕ, zero, suc, ◌+◌, ◌*◌, ◌≤◌, ◌<◌}
+use Prim.Native.Nat.{ℕ, zero, suc, ◌+◌, ◌≤◌}
 use native.Mathlib.Nat.{zero-add}
 use native.Mathlib.Omega.{arith}
 use lib.IntN.{ℤ}
 use lib.ListN.{length, get_or, drop, replicate, length-append, length-replicate}
 use lib.Seq.{sets, sets-eq}
-use Rattle.rules.specs.Word.{insWord, spanWord, Span}
+use Rattle.rules.specs.Word.{insWord, spanWord}
 use Rattle.rules.specs.Tree.{Expr, Block, Tree, Name, ofExpr, ofBlock, ofLines, statement, node, both}
 use Rattle.rules.specs.Tree as Tree
 use Rattle.rules.specs.Machine.{Machine}
-use Rattle.rules.specs.Tables.{Tables, Counts, runWords, allCode, encode, countsOf}
+use Rattle.rules.specs.Tables.{runWords, allCode, encode, countsOf}
 use Rattle.rules.specs.Script.{Script}
 use Rattle.rules.specs.Assemble.{heads, tails, sectionsOf}
 use Rattle.rules.specs.CodegenData.{CodegenData}
@@ -26,12 +26,12 @@ use Rattle.nodes.specs.Holds.{HoldsE, HoldsB, at-binop, at-unop, at-incdec, at-i
 use Rattle.tree.specs.Files.{HoldsL, no_line, a-line, widths}
 use Rattle.tables.specs.Lent.{tables}
 use Rattle.codegen.specs.declared.state.Counters.{Counters}
-use Rattle.codegen.specs.Does.{Lent, lent, regWord}
+use Rattle.codegen.specs.Does.{lent, regWord}
 use Rattle.codegen.proofs.Lists.{sets-start, map-append, length-map}
 use Rattle.stmts.specs.Makes.{Regs}
 use Rattle.stmts.proofs.Lists.{all_append, runs_append, runs-length, made-width}
 use Rattle.line.specs.Lines.{Parted}
-use Rattle.program.specs.Script.{ownCosts, LinesWent, LinesDone}
+use Rattle.program.specs.Script.{ownCosts, LinesDone}
 use Rattle.program.specs.Program.{over, Laid}
 use Rattle.program.proofs.Script.{script-length}
 

@@ -31,6 +31,7 @@ fn head_cost(nodes: &[u64], w: u64) -> usize
 }
 
 // And so of all lines.
+#[tactic(auto, using(crate::proofs::Script::costs_on, crate::proofs::Script::costs_end))]
 pub fn head_costs(nodes: &[u64], lines: &[u64], count: usize) -> usize
     requires { LinesAt nodes.now lines.now count }
     ensures { (s : List ℕ) (m : ℕ) (bs : List Block) (i z : ℕ) → length s ≤ mostBytes → m ≤ 256 → HoldsL nodes.now lines.now s m 0 i bs count z → result ≡ ownCosts bs }

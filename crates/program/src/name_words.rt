@@ -20,6 +20,7 @@ use words::MARK;
 const FIRST_NAME: usize = 2 * HEAD_BITS + NAME_BITS;
 
 // No name has a register yet.
+#[tactic(auto, using(crate::proofs::Names::clear_more))]
 pub fn clear_names(names: &mut [u16], n: usize)
     requires { n ≤ length names.old }
     ensures { names.new ≡ map regWord (replicate n none) ++ drop n names.old }
@@ -32,6 +33,7 @@ pub fn clear_names(names: &mut [u16], n: usize)
 }
 
 // Do the options protect a name with this flag?
+#[tactic(auto, unfolding(rules::specs::Lowered::protects))]
 fn protected(options: CodegenOptions, global: bool) -> bool
     ensures { result ≡ protects (optionsTold options) global }
 {
@@ -43,6 +45,7 @@ fn protected(options: CodegenOptions, global: bool) -> bool
 }
 
 // A name that is not protected has no register to the outside.
+#[tactic(auto, using(crate::proofs::Names::no_word, crate::proofs::Names::word_kept, crate::proofs::Names::word_dropped, crate::proofs::Names::words_done, crate::proofs::Names::name_inside, crate::proofs::Names::name_next), unfolding(names::specs::Names::end_at))]
 pub fn protect_names(s: &[u8], names: &mut [u16], n: usize, options: CodegenOptions)
     requires { NamesReady s.now n (length names.old) }
     ensures { (x : List Name) (vs : List (Option ℕ)) (rest : List ℕ) → Placed s.now x → length x ≡ n → length vs ≡ n → names.old ≡ map regWord vs ++ rest → names.new ≡ nameWords (optionsTold options) x vs ++ rest }

@@ -1,0 +1,36 @@
+-- Line k is held, and what is left of the room is enough for it.
+use Rattle.std.proofs.Common.{arith}
+use Rattle.program.proofs.Script.{lines_on, lines_end, line-held, same-counts}
+use Rattle.program.proofs.lines.codegen_from_lines.Goals as goal
+
+pub codegen_from_line-done-requires : goal.codegen_from_line-done-requires
+codegen_from_line-done-requires c =
+    let p = c.loop-k.invariant.mid.ready in
+    let lh = line-held (λ e. omega (arith, e)) p.held in
+    let sc = same-counts c.aimed_at.ensures in
+    record {
+      known = p.known;
+      block = lh.block;
+      last = lh.last;
+      held = lh.here;
+      inside = omega (arith, p.inside, lh.ends);
+      short = p.short;
+      few = p.few;
+      shallow = omega (arith, p.shallow, lh.sum.first-deep);
+      ample = omega (arith, p.ample, lh.sum, sc);
+      behind = omega (arith, p.behind, lh.sum, sc);
+      slot = omega (arith, lh.more, p.first-lines, p.ample);
+    }
+
+pub loop-k-preserved : goal.loop-k-preserved
+loop-k-preserved c =
+    let i = c.loop-k.invariant in
+    let a = c.codegen_from_line-done.auto in
+    record {
+      same = omega (arith, i.same, a);
+      within = omega arith;
+      mid = lines_on i.mid _ c.loop-k-test.true c.next_line.ensures c.aimed_at.ensures (omega (arith, a)) c.codegen_from_line-done.ensures;
+    }
+
+pub returns : goal.returns
+returns c = λ m bs x z a h. lines_end c.loop-k.invariant.mid (omega arith) a h
