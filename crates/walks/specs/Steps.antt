@@ -88,6 +88,11 @@ numberify-made g r f h =
     let x = went-emit g₁ i w.fine (ok₂ (roomOf g₁) Op.NumberifyVal r (length g.numbers) val num refl refl (omega arith) (omega arith)) in
     record { went = seq w (seq x (went-emit g₂ errorJump x.fine (ok-error g₂))); reg = omega arith }
 
+-- It emits two instructions, and no fewer.
+pub numberify-emits : (g : CodegenData) (r : ℕ) → length (numberify r g).1.instrs ≡ length g.instrs + 2
+unfolding numberify
+numberify-emits g r = simp length-append (omega arith)
+
 pub valueify-made : (g : CodegenData) (o r : ℕ) (k : Kind) → kinds o ≡ some (k, val, unused) → adds (lookup o rules) ≡ false → Fine g → FieldBelow (roomOf g) k r
     → MadeVal (cost 0 1 1 0 0) g (makeVal o r g)
 unfolding makeVal
