@@ -5,3 +5,4 @@ pub mod Success
 pub mod Small
 pub mod Match
 pub mod Table
+pub mod Lists

@@ -14,7 +14,7 @@ use Rattle.rules.specs.Tables.{allb}
 use Rattle.rules.specs.Operations.{fixedHere, jumpFixed, jumpsFixed, nextAhead, allAhead}
 use Rattle.rules.specs.Demand.{All}
 use Rattle.walks.specs.LowerWalk.{length-low, length-orEmpty, SameAs, Stands, fits-cast, fits-left, fits-right, base, line-fits, at_head, fits-tail, nextLine-lt, lower-fixed, heads-length, length-tailOf}
-use Rattle.walks.specs.CombineWalk.{Fixed, Ready}
+use Rattle.joins.specs.Along.{Fixed, Ready}
 use Rattle.walks.specs.Fits.{AllAt}
 use Rattle.walks.specs.Shape.{all_of}
 

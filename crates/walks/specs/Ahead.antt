@@ -10,7 +10,7 @@ use Rattle.rules.specs.Assemble.{nextLine, orOne, sectionsMade, ownCode, entry, 
 use Rattle.rules.specs.Clean.{renNext, ren, keep, rank, cleanSections}
 use Rattle.rules.specs.Operations.{nextAhead, allAhead}
 use Rattle.walks.specs.LowerWalk.{length-low, length-orEmpty, nextLine-lt, heads-length, length-tailOf}
-use Rattle.walks.specs.CombineWalk.{true≢false}
+use Rattle.laws.specs.Lists.{not-both}
 use Rattle.walks.specs.Fits.{AllAt}
 
 -- Section p's successor is a line, or ahead.
@@ -192,7 +192,7 @@ module _ (L : ℕ) (m : List SectionCode) (stmtSections : (t : ℕ) → t < L �
 
 or-true : (a b : Bool) → (a ≡ true) ⊎ (b ≡ true) → (a || b) ≡ true
 or-true true b h = refl
-or-true false b (inl h) = absurd (true≢false false h refl)
+or-true false b (inl h) = absurd (not-both false h refl)
 or-true false b (inr h) = h
 
 at_some : (l : List SectionCode) (t : ℕ) (s : SectionCode) → get_elem? l t ≡ some s → get_or l t absent ≡ s

@@ -10,7 +10,9 @@ use Rattle.rules.specs.Clean.{ren, keep, rank, cleanSections}
 use Rattle.walks.specs.Claim.{Safe}
 use Rattle.walks.specs.Walks.{Within}
 use Rattle.walks.specs.Renumber.{mapRes, mapLeg, enter-ren}
-use Rattle.walks.specs.CombineWalk.{Fixed, fixed-map, Ready, Kept, true≢false}
+use Rattle.joins.specs.Along.{Fixed, fixed-map, Ready}
+use Rattle.walks.specs.CombineWalk.{Kept}
+use Rattle.laws.specs.Lists.{not-both}
 
 abbrev pub IsFixedAt : List SectionCode → ℕ → Type 0
 IsFixedAt m t = isFixed (get_or m t absent).success ≡ true
@@ -20,7 +22,7 @@ abbrev kept : List SectionCode → ℕ → ℕ
 kept m t = length (keep (take (suc t) m))
 
 kept-pos : (m : List SectionCode) (t : ℕ) → IsFixedAt m t → 0 < kept m t
-kept-pos [] t h = absurd (true≢false false h refl)
+kept-pos [] t h = absurd (not-both false h refl)
 kept-pos (s ∷ m) zero h = rw h (omega arith)
 kept-pos (s ∷ m) (suc t) h = go (isFixed s.success) refl (kept-pos m t h)
   where
@@ -29,7 +31,7 @@ kept-pos (s ∷ m) (suc t) h = go (isFixed s.success) refl (kept-pos m t h)
     go false e p = rw e p
 
 keep_at : (m : List SectionCode) (t : ℕ) → IsFixedAt m t → get_or (keep m) (rank m t) absent ≡ get_or m t absent
-keep_at [] t h = absurd (true≢false false h refl)
+keep_at [] t h = absurd (not-both false h refl)
 keep_at (s ∷ m) zero h = rw h
 keep_at (s ∷ m) (suc t) h = go (isFixed s.success) refl (keep_at m t h)
   where
@@ -42,7 +44,7 @@ keep_at (s ∷ m) (suc t) h = go (isFixed s.success) refl (keep_at m t h)
     go false e p = rw e p
 
 kept_low : (m : List SectionCode) (t : ℕ) → ((u : ℕ) → u ≤ t → IsFixedAt m u) → kept m t ≡ suc t
-kept_low [] t h = absurd (true≢false false (h 0 (omega arith)) refl)
+kept_low [] t h = absurd (not-both false (h 0 (omega arith)) refl)
 kept_low (s ∷ m) zero h = rw (h 0 (omega arith))
 kept_low (s ∷ m) (suc t) h = rw (h 0 (omega arith)) (ap suc (kept_low m t (λ u p. h (suc u) (omega arith))))
 

@@ -10,7 +10,7 @@ use Rattle.rules.specs.Assemble.{condJump, nextLine}
 use Rattle.rules.specs.ReadScript.{Out, behind, erred, gone, stop, thenOn, and_then, readOwn, readGoto, readIf, readCond, read, onward, stepLine, readScript, readIns}
 use Rattle.rules.specs.Demand.{Walk, Meets, Fewer, SameFirst}
 use Rattle.walks.specs.Claim.{Alike}
-use Rattle.walks.specs.CombineWalk.{lt-or-le}
+use Rattle.joins.specs.Numbers.{lt-or-le}
 use Rattle.walks.specs.LowerWalk.{nextLine-lt}
 
 -- ---- outcomes do not grow; a lively list uses one or meets an instruction

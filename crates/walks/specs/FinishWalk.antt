@@ -16,7 +16,8 @@ use Rattle.walks.specs.FinishedCode.{finish}
 use Rattle.rules.specs.Demand.{SameWalk, prune}
 use Rattle.walks.specs.Claim.{Alike, Safe, SectGood, Demand3}
 use Rattle.walks.specs.Walks.{Within, within-trans, covers-within, covers-back, within-safe, same-walk}
-use Rattle.walks.specs.CombineWalk.{Ready, Kept, combine-keeps, combine-ends}
+use Rattle.joins.specs.Along.{Ready, combine-ends}
+use Rattle.walks.specs.CombineWalk.{Kept, combine-keeps}
 use Rattle.walks.specs.CleanWalk.{clean-same, clean_ready}
 use Rattle.walks.specs.Codegen.{codegen}
 use Rattle.walks.specs.CodegenProof.{codegen-is}
@@ -39,7 +40,7 @@ module _ (t : Script) (pos : 0 < length t) where
   -- No pair is left.
   pub finished : pair (finish t) ≡ none
   unfolding finish
-  finished = combine-ends (length t) pos (cleanSections (sectionsOf t)) ready
+  finished = combine-ends (cleanSections (sectionsOf t))
 
   module _ (os : List ℕ) where
     low-to-tree : Within (walkSections (sectionsOf t) (length t) os) (readScript t os)

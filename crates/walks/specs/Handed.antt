@@ -14,7 +14,9 @@ use Rattle.rules.specs.Walk.{walk, walkSections}
 use Rattle.walks.specs.Claim.{Alike}
 use Rattle.walks.specs.Walks.{same-walk}
 use Rattle.walks.specs.Parsed.{refused≢ok}
-use Rattle.walks.specs.CombineWalk.{true≢false, Fixed, Ready, combine-keeps, combine-ends}
+use Rattle.laws.specs.Lists.{not-both}
+use Rattle.joins.specs.Along.{Fixed, Ready, combine-ends}
+use Rattle.walks.specs.CombineWalk.{combine-keeps}
 
 -- what combine leaves: the words of the combined machine, which meets and asks what the one handed in does, and has no pair
 pub record Combines (t : Tables) (u v : Counts) : Type 0 where
@@ -29,8 +31,8 @@ pub record Combines (t : Tables) (u v : Counts) : Type 0 where
 
 both : (a b : Bool) → a && b ≡ true → (a ≡ true) × (b ≡ true)
 both true true e = (refl, refl)
-both true false e = absurd (true≢false false e refl)
-both false b e = absurd (true≢false false e refl)
+both true false e = absurd (not-both false e refl)
+both false b e = absurd (not-both false e refl)
 
 -- what is asked of a section's word, without and with its start
 abbrev plainFits : Counts → ℕ → ℕ → Bool
@@ -50,7 +52,7 @@ starts u i k [] is e t h = refl
 starts u i k (w ∷ ws) is e t h = go (sectionFits u i k w) refl e t h (λ q. starts u (suc i) (k + (wordRun w).count) ws (drop (wordRun w).count is) q)
   where
     go : (b : Bool) → sectionFits u i k w ≡ b → elim b [ false ↦ false | true ↦ runsFit u (suc i) (k + (wordRun w).count) ws ] ≡ true → (t : ℕ) → i + t < u.lines → (runsFit u (suc i) (k + (wordRun w).count) ws ≡ true → (n : ℕ) → suc i + n < u.lines → (get_or (readSections ws (drop (wordRun w).count is)) n absent).lineStart ≡ true) → (get_or (readSections (w ∷ ws) is) t absent).lineStart ≡ true
-    go false p q n l ih = absurd (true≢false false q refl)
+    go false p q n l ih = absurd (not-both false q refl)
     go true p q zero l ih = started u i (wordRun w) (both (plainFits u k w) (startFits u i (wordRun w)) p).1 (omega arith)
     go true p q (suc n) l ih = ih q n (omega arith)
 
@@ -68,7 +70,7 @@ fixed [] e = tt
 fixed (s ∷ m) e = go (fixedHere s) refl e (fixed m)
   where
     go : (b : Bool) → fixedHere s ≡ b → elim b [ false ↦ false | true ↦ allb fixedHere m ] ≡ true → (allb fixedHere m ≡ true → Fixed m) → Fixed (s ∷ m)
-    go false p q ih = absurd (true≢false false q refl)
+    go false p q ih = absurd (not-both false q refl)
     go true p q ih = (p, ih q)
 
 -- ---- the machine that the words hold, if they hold one
@@ -82,7 +84,7 @@ unfolding fits
 counts-fit t u e = go (countsFit t u) refl e
   where
     go : (b : Bool) → countsFit t u ≡ b → elim b [ false ↦ false | true ↦ wordsFit t u ] ≡ true → (countsFit t u ≡ true) × (wordsFit t u ≡ true)
-    go false p q = absurd (true≢false false q refl)
+    go false p q = absurd (not-both false q refl)
     go true p q = (p, q)
 
 runs_fit : (t : Tables) (u : Counts) → wordsFit t u ≡ true → runsFit u 0 0 (take u.sections t.sections) ≡ true
@@ -151,7 +153,7 @@ combines t u v e = from (decode t u) refl (begins t u)
           counts = sym (ap (value v) (sym (ap (λ (x : Res Counts × Tables). x.0) w) ∙ e));
           words = ap (λ (x : Res Counts × Tables). x.1) w;
           same = λ os. same-walk (walkSections (combineSections m.sections) m.lines os) (walkSections m.sections m.lines os) (k.back os) (k.there os);
-          noPair = combine-ends m.lines b.0 m.sections ready;
+          noPair = combine-ends m.sections;
         }
 
     through : (m : Machine) → decode t u ≡ ok m → Begins (ok m) → (x : Res Machine) → combineIn t m ≡ x → Combines t u v

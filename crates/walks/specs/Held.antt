@@ -10,7 +10,7 @@ use Rattle.rules.specs.Tables.{Counts, countsOf, allb, allCode, nameFits}
 use Rattle.rules.specs.Demand.{All, FieldBelow, FieldsBelow, RegistersBelow}
 use Rattle.walks.specs.Claim.{CodeGood, NextGood, SectGood}
 use Rattle.walks.specs.Jumps.{aimed-other}
-use Rattle.walks.specs.CombineWalk.{true≢false}
+use Rattle.laws.specs.Lists.{not-both}
 use Rattle.walks.specs.Fits.{row_of, isPlace, Holds, Held, Counted, SectFit, NextFit, SpanFit, MachineFit}
 use Rattle.walks.specs.Targets.{JumpBelow, NextBelow, Aims, Loose}
 use Rattle.walks.specs.Shape.{all-at, numbered}
@@ -27,12 +27,12 @@ all_lookup {A} p (x ∷ l) h zero k e = let q : x ≡ k = cc in subst (λ (y : A
   where
     go : (b : Bool) → p x ≡ b → elim b as (λ z. Bool) [ false ↦ false | true ↦ allb p l ] ≡ true → p x ≡ true
     go true q r = q
-    go false q r = absurd (true≢false false r refl)
+    go false q r = absurd (not-both false r refl)
 all_lookup p (x ∷ l) h (suc o) k e = all_lookup p l (go (p x) h) o k e
   where
     go : (b : Bool) → elim b as (λ z. Bool) [ false ↦ false | true ↦ allb p l ] ≡ true → allb p l ≡ true
     go true r = r
-    go false r = absurd (true≢false false r refl)
+    go false r = absurd (not-both false r refl)
 
 rowPlain : Row → Bool
 rowPlain r = noPlace r.kinds
@@ -43,8 +43,8 @@ rest_plain = refl
 
 no_place : (o : ℕ) → leb o 1 ≡ false → (k : Kind × Kind × Kind) → kinds o ≡ some k → noPlace k ≡ true
 unfolding table rowPlain
-no_place zero h k e = absurd (true≢false true refl h)
-no_place (suc zero) h k e = absurd (true≢false true refl h)
+no_place zero h k e = absurd (not-both true refl h)
+no_place (suc zero) h k e = absurd (not-both true refl h)
 no_place (suc (suc o)) h k e =
     let r = row_of (suc (suc o)) k e in
     subst (λ (z : Kind × Kind × Kind). noPlace z ≡ true) r.2 (all_lookup rowPlain (drop 2 table) rest_plain o r.0 r.1)
@@ -53,22 +53,22 @@ no_place (suc (suc o)) h k e =
 
 held-jump : (u : Counts) (o a b c d : ℕ) → o ≤ 1 → FieldsBelow u (kinds o) (record { op = o; fst = a; snd = c; thd = d }) → b < u.sections → Held u (kinds o) (record { op = o; fst = b; snd = c; thd = d })
 unfolding kinds
-held-jump u zero a b c d h f k = ((tt, λ q. k), (f.1, λ q. absurd (true≢false true refl (sym q))), (f.2, λ q. absurd (true≢false true refl (sym q))))
-held-jump u (suc zero) a b c d h f k = ((tt, λ q. k), (f.1, λ q. absurd (true≢false true refl (sym q))), (f.2, λ q. absurd (true≢false true refl (sym q))))
+held-jump u zero a b c d h f k = ((tt, λ q. k), (f.1, λ q. absurd (not-both true refl (sym q))), (f.2, λ q. absurd (not-both true refl (sym q))))
+held-jump u (suc zero) a b c d h f k = ((tt, λ q. k), (f.1, λ q. absurd (not-both true refl (sym q))), (f.2, λ q. absurd (not-both true refl (sym q))))
 held-jump u (suc (suc o)) a b c d h f k = absurd (omega arith)
 
 not-place : (k : Kind) → not (isPlace k) ≡ true → isPlace k ≡ true → ⊥
-not-place unused h q = true≢false true refl (sym q)
-not-place num h q = true≢false true refl (sym q)
-not-place str h q = true≢false true refl (sym q)
-not-place val h q = true≢false true refl (sym q)
-not-place place h q = true≢false true refl (sym h)
+not-place unused h q = not-both true refl (sym q)
+not-place num h q = not-both true refl (sym q)
+not-place str h q = not-both true refl (sym q)
+not-place val h q = not-both true refl (sym q)
+not-place place h q = not-both true refl (sym h)
 
 three : (a b c : Bool) → (a && b && c) ≡ true → (a ≡ true) × (b ≡ true) × (c ≡ true)
 three true true true e = (refl, refl, refl)
-three true true false e = absurd (true≢false true refl (sym e))
-three true false c e = absurd (true≢false true refl (sym e))
-three false b c e = absurd (true≢false true refl (sym e))
+three true true false e = absurd (not-both true refl (sym e))
+three true false c e = absurd (not-both true refl (sym e))
+three false b c e = absurd (not-both true refl (sym e))
 
 held-other : (u : Counts) (i : Instruction) (k : Option (Kind × Kind × Kind)) → ((l : Kind × Kind × Kind) → k ≡ some l → noPlace l ≡ true) → FieldsBelow u k i → Held u k i
 held-other u i none n f = f

@@ -17,7 +17,7 @@ use Rattle.rules.specs.ReadScript.{Out, behind, erred, gone, stop, thenOn, and_t
 use Rattle.walks.specs.Claim.{Safe}
 use Rattle.walks.specs.Walks.{Goes, Halts, goes-here, goes_step, halts-step, goes-goes, goes-halts, Match, m-to, m-done, covers, Covers}
 use Rattle.walks.specs.Renumber.{inside-append}
-use Rattle.walks.specs.CombineWalk.{true≢false}
+use Rattle.laws.specs.Lists.{not-both}
 use Rattle.walks.specs.Jumps.{shown-aimed}
 
 -- ---- how many sections

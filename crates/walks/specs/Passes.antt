@@ -18,7 +18,7 @@ use Rattle.rules.specs.Lowered.{Options, assemble, lowered, finished}
 use Rattle.rules.specs.Annotate.{annotate}
 use Rattle.rules.specs.Operations.{size_of, estimate, fixedHere, jumpsFixed, cleanIn, allAhead, combineIn}
 use Rattle.walks.specs.CleanWalk.{rank-low}
-use Rattle.walks.specs.CombineWalk.{Ready}
+use Rattle.joins.specs.Along.{Ready}
 use Rattle.walks.specs.CodegenProof.{codegen-is}
 use Rattle.walks.specs.LowerWalk.{lower-fixed}
 use Rattle.walks.specs.DemandProof.{lowered-sections}

@@ -11,7 +11,7 @@ use Rattle.rules.specs.Reading.{repAll, repFirst, repRest, firsts, rests, repScr
 use Rattle.rules.specs.Demand.{All, FieldsBelow, RegistersBelow}
 use Rattle.walks.specs.Claim.{CodeGood, Good, GoodTree, GoodWhole}
 use Rattle.walks.specs.Jumps.{aimed-other}
-use Rattle.walks.specs.CombineWalk.{true≢false}
+use Rattle.laws.specs.Lists.{not-both}
 use Rattle.walks.specs.Room.{adds, Ok}
 use Rattle.walks.specs.Own.{Whole}
 
@@ -86,17 +86,17 @@ module _ (u : Counts) (p : ℕ) where
   by-quiet stays e σ i = refl
   by-quiet goes e σ i = refl
   by-quiet (turns q) e σ i = refl
-  by-quiet (number z) e σ i = absurd (true≢false true refl e)
-  by-quiet (result z) e σ i = absurd (true≢false true refl e)
-  by-quiet blank e σ i = absurd (true≢false true refl e)
+  by-quiet (number z) e σ i = absurd (not-both true refl e)
+  by-quiet (result z) e σ i = absurd (not-both true refl e)
+  by-quiet blank e σ i = absurd (not-both true refl e)
 
   by-good : (r : Rule) → adds r ≡ false → (σ : Regs) (i : Instruction) → Keeps i.op r → RegistersBelow u i → CodeGood P (replaceBy p r σ i).0
   by-good stays e σ i k h = (shown-regs u i h, tt)
   by-good goes e σ i k h = tt
   by-good (turns q) e σ i k h = (shown-regs u (ins₁ q i.fst) (turned-regs u i q k h), tt)
-  by-good (number z) e σ i k h = absurd (true≢false true refl e)
-  by-good (result z) e σ i k h = absurd (true≢false true refl e)
-  by-good blank e σ i k h = absurd (true≢false true refl e)
+  by-good (number z) e σ i k h = absurd (not-both true refl e)
+  by-good (result z) e σ i k h = absurd (not-both true refl e)
+  by-good blank e σ i k h = absurd (not-both true refl e)
 
   code-append : (a b : List Instruction) → CodeGood P a → CodeGood P b → CodeGood P (a ++ b)
   code-append [] b x y = y

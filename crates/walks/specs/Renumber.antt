@@ -1,4 +1,4 @@
--- What renumbering does to a step of the machine; facts on lists.
+-- What renumbering does to a step of the machine.
 use Rattle.std.specs.Prelude.{◌≡◌, refl, ◌≢◌, Bool, true, false, cond, List, [], ◌∷◌, ◌++◌, map, ℕ, zero, suc, pred, ◌+◌, ◌%◌, ◌≤◌, ◌<◌, length, get_or}
 use Rattle.std.proofs.Common.{sym, ap, ap₂, ◌∙◌, subst, append_assoc, le_of_suc-le-suc, not-suc-le-zero, mod-lt, arith}
 use Rattle.rules.specs.Instr.{Instruction, isJump, aimed, shown}
@@ -81,23 +81,3 @@ plays-then st a b l g l' (done f) h = goes-halts g h
 abbrev pub Avoids : ℕ → Step State → Type 0
 Avoids j (to s) = s.0 ≡ j → ⊥
 Avoids j (done f) = Unit {0}
-
--- ---- lists
-
-module _ {A : Type 0} where
-  pub without-below : (l : List A) (n t : ℕ) (d : A) → t < n → get_or (without l n) t d ≡ get_or l t d
-  without-below [] n t d h = refl
-  without-below (x ∷ xs) zero t d h = absurd (not-suc-le-zero h)
-  without-below (x ∷ xs) (suc n) zero d h = refl
-  without-below (x ∷ xs) (suc n) (suc t) d h = without-below xs n t d (le_of_suc-le-suc h)
-
-  pub without-above : (l : List A) (n t : ℕ) (d : A) → n ≤ t → get_or (without l n) t d ≡ get_or l (suc t) d
-  without-above [] n t d h = refl
-  without-above (x ∷ xs) zero t d h = refl
-  without-above (x ∷ xs) (suc n) zero d h = absurd (not-suc-le-zero h)
-  without-above (x ∷ xs) (suc n) (suc t) d h = without-above xs n t d (le_of_suc-le-suc h)
-
-  pub length_without : (l : List A) (n : ℕ) → n < length l → suc (length (without l n)) ≡ length l
-  length_without [] n h = absurd (not-suc-le-zero h)
-  length_without (x ∷ xs) zero h = refl
-  length_without (x ∷ xs) (suc n) h = ap suc (length_without xs n (le_of_suc-le-suc h))

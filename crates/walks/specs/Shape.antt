@@ -11,7 +11,11 @@ use Rattle.rules.specs.Clean.{renIns, renNext, ren, keep, rank, cleanSections}
 use Rattle.rules.specs.Combine.{hit, refsNext, refsIns, refsCode, joined, combineAt, combineSections}
 use Rattle.rules.specs.Demand.{All}
 use Rattle.walks.specs.LowerWalk.{heads-length}
-use Rattle.walks.specs.CombineWalk.{cond-hit, lt-or-le, fall-low, fall-high, Ready, Pair, Came, came, Set, taken, kept, set_here, clear_at, pair-below, combine-ready, combine-length, combine-along}
+use Rattle.joins.specs.References.{no-hit}
+use Rattle.joins.specs.Numbers.{lt-or-le, fall-low, fall-high}
+use Rattle.joins.specs.Along.{Ready, behind-lines, join-ready, combine-along}
+use Rattle.joins.specs.Pairs.{Pair}
+use Rattle.joins.specs.Joins.{Came, came, Stands, joint, other, stands, clear-at, first-in, second-in, length-join}
 use Rattle.walks.specs.Fits.{loose, AllAt}
 use Rattle.walks.specs.Targets.{JumpBelow, NextBelow, Aims, Loose, tails-loose}
 
@@ -43,14 +47,14 @@ fall-below j t n h ne k = go (lt-or-le j t)
 code-fall : (j n : ℕ) → j < suc n → (c : List Instruction) → refsCode j c ≡ 0 → All (JumpBelow (suc n)) c → All (JumpBelow n) (map (renIns (fall j)) c)
 code-fall j n k [] e h = tt
 code-fall j n k (i ∷ c) e h =
-    (λ q. subst (λ (b : Bool). cond b (fall j i.fst) i.fst < n) (sym q) (fall-below j i.fst n (h.0 q) (cond-hit i.fst j (subst (λ (b : Bool). cond b (hit i.fst j) 0 ≡ 0) q (first e))) k), code-fall j n k c (omega arith) h.1)
+    (λ q. subst (λ (b : Bool). cond b (fall j i.fst) i.fst < n) (sym q) (fall-below j i.fst n (h.0 q) (no-hit i.fst j (subst (λ (b : Bool). cond b (hit i.fst j) 0 ≡ 0) q (first e))) k), code-fall j n k c (omega arith) h.1)
   where
     first : refsIns j i + refsCode j c ≡ 0 → cond (isJump i) (hit i.fst j) 0 ≡ 0
     first e = omega arith
 
 next-fall : (j n : ℕ) → j < suc n → (x : SectionOrLine) → refsNext j x ≡ 0 → NextBelow (suc n) x → NextBelow n (renNext (fall j) x)
 next-fall j n k unfixed e h = tt
-next-fall j n k (section t) e h = fall-below j t n h (cond-hit t j e) k
+next-fall j n k (section t) e h = fall-below j t n h (no-hit t j e) k
 next-fall j n k (line r) e h = tt
 
 all_append : {A : Type 0} (P : A → Type 0) (a b : List A) → All P a → All P b → All P (a ++ b)
@@ -69,41 +73,41 @@ module _ (L : ℕ) (pos : 0 < L) where
       n = length (combineAt m i j)
 
       is-n : suc (length (combineAt m i j)) ≡ length m
-      is-n = combine-length L pos m r i j pr
+      is-n = length-join m i j pr
 
       b : (i < length m) × (j < length m) × (L ≤ j)
-      b = pair-below L pos m r i j pr
+      b = (first-in m i j pr, second-in m i j pr, behind-lines L m r i j pr)
 
       old : (v : ℕ) → v < length m → Aims (length m) (get_or m v absent)
       old v p = all-at (Aims (length m)) absent m h v p
 
-      new : (v : ℕ) → v < length m → Set L pos m r i j pr v → Aims (length m) (get_or (set m i (joined (get_or m i absent) (get_or m j absent))) v absent)
-      new v p (taken e q) =
+      new : (v : ℕ) → v < length m → Stands m i j pr v → Aims (length m) (get_or (set m i (joined (get_or m i absent) (get_or m j absent))) v absent)
+      new v p (joint e q) =
           subst (Aims (length m)) (sym q) (all_append (JumpBelow (length m)) (get_or m i absent).instrs (get_or m j absent).instrs (old i b.0).0 (old j b.1).0, (old j b.1).1)
-      new v p (kept e q) = subst (Aims (length m)) (sym q) (old v p)
+      new v p (other e q) = subst (Aims (length m)) (sym q) (old v p)
 
       at : (t : ℕ) → t < length (combineAt m i j) → Aims (length (combineAt m i j)) (get_or (combineAt m i j) t absent)
       at t p =
-          let c = came L pos m r i j pr t (omega (arith, is-n)) in
+          let c = came m i j pr t (omega (arith, is-n)) in
           let s = get_or (set m i (joined (get_or m i absent) (get_or m j absent))) c.from absent in
-          let z = clear_at L pos m r i j pr c.from c.other s refl in
-          let a : Aims (suc (length (combineAt m i j))) s = subst (λ (k : ℕ). Aims k s) (sym is-n) (new c.from c.below (set_here L pos m r i j pr c.from)) in
+          let z = clear-at m i j pr c.from c.other in
+          let a : Aims (suc (length (combineAt m i j))) s = subst (λ (k : ℕ). Aims k s) (sym is-n) (new c.from c.below (stands m i j pr c.from)) in
           subst (Aims (length (combineAt m i j))) (sym c.is) (code-fall j (length (combineAt m i j)) (omega (arith, is-n, b.1)) s.instrs (omega arith) a.0, next-fall j (length (combineAt m i j)) (omega (arith, is-n, b.1)) s.success (omega arith) a.1)
 
   pub combine-aims : (m : List SectionCode) → Ready L m → All (Aims (length m)) m → All (Aims (length (combineSections m))) (combineSections m)
-  combine-aims m r h = combine-along L pos (λ z. All (Aims (length z)) z) aims-step m r h
+  combine-aims m r h = combine-along L (λ z. All (Aims (length z)) z) aims-step m r h
 
   inner-step : (m : List SectionCode) → Ready L m → (i j : ℕ) → Pair m i j → Inner L m → Inner L (combineAt m i j)
   inner-step m r i j pr h t p q =
-      let c = came L pos m r i j pr t (omega (arith, combine-length L pos m r i j pr)) in
-      ap (λ (s : SectionCode). s.lineStart) c.is ∙ go c.from (omega (arith, c.high)) c.below (set_here L pos m r i j pr c.from)
+      let c = came m i j pr t (omega (arith, length-join m i j pr)) in
+      ap (λ (s : SectionCode). s.lineStart) c.is ∙ go c.from (omega (arith, c.high)) c.below (stands m i j pr c.from)
     where
-      go : (v : ℕ) → L ≤ v → v < length m → Set L pos m r i j pr v → (get_or (set m i (joined (get_or m i absent) (get_or m j absent))) v absent).lineStart ≡ false
-      go v a b (taken e k) = ap (λ (s : SectionCode). s.lineStart) k ∙ h i (omega arith) (omega arith)
-      go v a b (kept e k) = ap (λ (s : SectionCode). s.lineStart) k ∙ h v a b
+      go : (v : ℕ) → L ≤ v → v < length m → Stands m i j pr v → (get_or (set m i (joined (get_or m i absent) (get_or m j absent))) v absent).lineStart ≡ false
+      go v a b (joint e k) = ap (λ (s : SectionCode). s.lineStart) k ∙ h i (omega arith) (omega arith)
+      go v a b (other e k) = ap (λ (s : SectionCode). s.lineStart) k ∙ h v a b
 
   pub combine-inner : (m : List SectionCode) → Ready L m → Inner L m → Inner L (combineSections m)
-  combine-inner m r h = combine-along L pos (Inner L) inner-step m r h
+  combine-inner m r h = combine-along L (Inner L) inner-step m r h
 
 -- ---- lowered and cleaned
 

@@ -23,7 +23,10 @@ use Rattle.rules.specs.Demand.{SameWalk, Demand}
 use Rattle.walks.specs.Claim.{Alike}
 use Rattle.walks.specs.Walks.{same-walk}
 use Rattle.walks.specs.Codegen.{codegen}
-use Rattle.walks.specs.CombineWalk.{Ready, Pair, join-keeps, combine-length, combine-keeps, combine-ends}
+use Rattle.joins.specs.Along.{Ready, combine-ends}
+use Rattle.joins.specs.Pairs.{Pair}
+use Rattle.walks.specs.CombineWalk.{join-keeps, combine-keeps}
+use Rattle.joins.specs.Joins.{length-join}
 use Rattle.walks.specs.FinishWalk.{low_same, clean_is}
 use Rattle.walks.specs.LimitsTree.{limits}
 use Rattle.walks.specs.Estimate.{WithinEstimate, estimated}
@@ -45,7 +48,7 @@ module _ (L : ℕ) (lines : 0 < L) (m : List SectionCode) (ready : Ready L m) (i
 
   -- and takes one section away, so joining ends.
   pub join-shortens : suc (length (combineAt m i j)) ≡ length m
-  join-shortens = combine-length L lines m ready i j p
+  join-shortens = length-join m i j p
 
 -- Combining preserves every walk of such a machine, and ends where no pair is left.
 module _ (L : ℕ) (lines : 0 < L) (m : List SectionCode) (ready : Ready L m) where
@@ -55,7 +58,7 @@ module _ (L : ℕ) (lines : 0 < L) (m : List SectionCode) (ready : Ready L m) wh
       same-walk (walkSections (combineSections m) L os) (walkSections m L os) (k.back os) (k.there os)
 
   pub combine-leaves-none : pair (combineSections m) ≡ none
-  combine-leaves-none = combine-ends L lines m ready
+  combine-leaves-none = combine-ends m
 
 -- ---- a tree
 

@@ -23,7 +23,10 @@ use Rattle.rules.specs.Lowered.{Options, spans, texts, lowered, finished}
 use Rattle.rules.specs.Demand.{All, RegistersBelow}
 use Rattle.walks.specs.Claim.{SectGood}
 use Rattle.walks.specs.CleanWalk.{clean_ready}
-use Rattle.walks.specs.CombineWalk.{Ready, Kept, Pair, pair-below, combine-length, combine-along, combine-keeps}
+use Rattle.joins.specs.Along.{Ready, behind-lines, combine-along}
+use Rattle.walks.specs.CombineWalk.{Kept, combine-keeps}
+use Rattle.joins.specs.Pairs.{Pair}
+use Rattle.joins.specs.Joins.{first-in, second-in, length-join}
 use Rattle.walks.specs.LowerWalk.{lower-fixed, lower-starts}
 use Rattle.walks.specs.FinishedCode.{lower-good, clean-good, combined-good}
 use Rattle.walks.specs.Room.{Room, roomOf, Fine, NameBelow}
@@ -84,8 +87,8 @@ pub record Sizes (L n c : ℕ) (m : List SectionCode) : Type 0 where
 counts_step : (L : ℕ) (pos : 0 < L) (n c : ℕ) (m : List SectionCode) → Ready L m → (i j : ℕ) → Pair m i j → Sizes L n c m → Sizes L n c (combineAt m i j)
 unfolding combineAt
 counts_step L pos n c m r i j pr k =
-    let b = pair-below L pos m r i j pr in
-    let l = combine-length L pos m r i j pr in
+    let b : (i < length m) × (j < length m) × (L ≤ j) = (first-in m i j pr, second-in m i j pr, behind-lines L m r i j pr) in
+    let l = length-join m i j pr in
     let J = joined (get_or m i absent) (get_or m j absent) in
     let s = set m i J in
     let e : get_or s j absent ≡ get_or m j absent = get_or-set_other m i j J absent (λ q. pr.apart (sym q)) in
@@ -184,7 +187,7 @@ module _ (o : Options) (t : Tree) (lim : Limits t) where
   pub finish-counts : Sizes (length (script t)) (length (sectionsOf (script t))) (codeLen (sectionsOf (script t))) (combineSections (cleanSections (sectionsOf (script t))))
   finish-counts =
       let m = sectionsOf (script t) in
-      combine-along (length (script t)) pos (Sizes (length (script t)) (length m) (codeLen m)) (counts_step (length (script t)) pos (length m) (codeLen m)) (cleanSections m) ready clean-counts
+      combine-along (length (script t)) (Sizes (length (script t)) (length m) (codeLen m)) (counts_step (length (script t)) pos (length m) (codeLen m)) (cleanSections m) ready clean-counts
 
   pub lines_are : (lowered o t).lines ≡ length (script t)
   unfolding lowered
