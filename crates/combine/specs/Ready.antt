@@ -16,7 +16,7 @@ use Rattle.rules.specs.Operations.{put, fixedHere, allAhead, combineIn}
 use Rattle.rules.specs.Combine.{combined}
 use Rattle.rules.specs.Demand.{All}
 use Rattle.laws.specs.Words.{InsSmall}
-use Rattle.walks.specs.Fits.{Held, Counted, SectFit, NextFit, AllAt, MachineFit, op-small, field-small}
+use Rattle.machines.specs.Fits.{Held, Counted, SectFit, NextFit, AllAt, MachineFit, op-small, field-small}
 use Rattle.tables.specs.Runs.{held}
 use Rattle.tables.proofs.Read.{words-length}
 use Rattle.join.specs.Held.{NextSmall, SectSmall, Holds, Sound}

@@ -16,7 +16,7 @@ use Rattle.rules.specs.Clean.{cleaned}
 use Rattle.rules.specs.Combine.{combined}
 use Rattle.rules.specs.Lowered.{Options, lowered, finished}
 use Rattle.rules.specs.Operations.{size_of, estimate, holds, put, write, build, lower, finish}
-use Rattle.walks.specs.Parsed.{refused≢ok}
+use Rattle.bounds.specs.Parsed.{refused≢ok}
 use Rattle.walks.specs.Theorems.{lowered-estimated}
 use Rattle.tables.specs.declared.counts.Counts.{Counts as Lent}
 use Rattle.tables.specs.declared.answer.Answer.{Answer}
@@ -26,7 +26,7 @@ use Rattle.tables.specs.Runs.{held}
 use Rattle.tables.proofs.Read.{words-length}
 use Rattle.combine.specs.Loop.{put-twice}
 use Rattle.finish.specs.Passes.{Lowered, finishSections, Finished}
-use Rattle.walks.specs.Back.{put-begins}
+use Rattle.machines.specs.Back.{put-begins}
 use Rattle.finish.proofs.Lowered.{held-is}
 
 -- ---- an answer by what it is found to be

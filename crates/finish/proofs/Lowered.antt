@@ -13,11 +13,11 @@ use Rattle.rules.specs.Clean.{cleanSections, cleaned}
 use Rattle.rules.specs.Combine.{combineSections}
 use Rattle.rules.specs.Lowered.{lowered, finished}
 use Rattle.rules.specs.Operations.{allAhead}
-use Rattle.walks.specs.Fits.{MachineFit, encoded-fits}
-use Rattle.walks.specs.Estimate.{code-length}
-use Rattle.walks.specs.Targets.{clean-length}
-use Rattle.walks.specs.TreeFits.{keep-length, clean-len, lowered-fit, cleaned-fit}
-use Rattle.walks.specs.Back.{put-begins}
+use Rattle.machines.specs.Fits.{MachineFit, encoded-fits}
+use Rattle.bounds.specs.Estimate.{code-length}
+use Rattle.machines.specs.Targets.{clean-length}
+use Rattle.machines.specs.TreeFits.{keep-length, clean-len, lowered-fit, cleaned-fit}
+use Rattle.machines.specs.Back.{put-begins}
 use Rattle.walks.specs.Theorems.{combined-is}
 use Rattle.tables.specs.Runs.{total, held}
 use Rattle.tables.proofs.Sound.{sound}

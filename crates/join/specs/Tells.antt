@@ -14,7 +14,7 @@ use Rattle.rules.specs.Demand.{All}
 use Rattle.laws.specs.Words.{run-back}
 use Rattle.words.specs.Runs.{run_of}
 use Rattle.laws.specs.Success.{flag-lt, kind-lt}
-use Rattle.walks.specs.Fits.{flag_one}
+use Rattle.machines.specs.Fits.{flag_one}
 use Rattle.join.specs.Held.{NextSmall, SectSmall}
 use Rattle.tables.specs.Runs.{count_of, total}
 use Rattle.join.specs.Passes.{mergedWord, word_at, numbered}

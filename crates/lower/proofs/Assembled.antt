@@ -14,21 +14,22 @@ use Rattle.rules.specs.Annotate.{annotate}
 use Rattle.rules.specs.Assemble.{sectionsOf}
 use Rattle.rules.specs.Lowered.{Options, spans, texts, assemble, lowered}
 use Rattle.rules.specs.Demand.{All, RegistersBelow}
-use Rattle.walks.specs.Claim.{CodeGood, GoodWhole}
-use Rattle.walks.specs.Quiet.{shown-regs, cond-regs}
-use Rattle.walks.specs.Room.{Room, roomOf, Ok}
-use Rattle.walks.specs.Own.{Whole, whole-grows, annotate-made}
-use Rattle.walks.specs.LimitsTree.{limits}
-use Rattle.walks.specs.LowerWalk.{lower-starts}
-use Rattle.walks.specs.FinishedCode.{lower-good}
-use Rattle.walks.specs.DemandProof.{numbers_stay, strings-stay, length-spans}
-use Rattle.walks.specs.Estimate.{sections-length, replaced-length}
-use Rattle.walks.specs.Bounds.{small}
-use Rattle.walks.specs.Targets.{Aims, lower-aims}
-use Rattle.walks.specs.Shape.{lower-later}
-use Rattle.walks.specs.Texts.{annotate-short, spans_fit, names-fit}
-use Rattle.walks.specs.Fits.{Counted, MachineFit}
-use Rattle.walks.specs.Held.{SectsFit, machine-fit}
+use Rattle.bounds.specs.Good.{CodeGood, GoodWhole}
+use Rattle.bounds.specs.Quiet.{shown-regs, cond-regs}
+use Rattle.bounds.specs.Room.{Room, roomOf, Ok}
+use Rattle.bounds.specs.Own.{Whole, whole-grows, annotate-made}
+use Rattle.bounds.specs.LimitsTree.{limits}
+use Rattle.machines.specs.Lowered.{lower-starts}
+use Rattle.machines.specs.FinishedCode.{lower-good}
+use Rattle.bounds.specs.Stay.{numbers_stay, strings-stay}
+use Rattle.bounds.specs.Lengths.{length-spans}
+use Rattle.bounds.specs.Estimate.{sections-length, replaced-length}
+use Rattle.bounds.specs.Bounds.{small}
+use Rattle.machines.specs.Targets.{Aims, lower-aims}
+use Rattle.machines.specs.Shape.{lower-later}
+use Rattle.machines.specs.Texts.{annotate-short, spans_fit, names-fit}
+use Rattle.machines.specs.Fits.{Counted, MachineFit}
+use Rattle.machines.specs.Held.{SectsFit, machine-fit}
 
 -- ---- every statement's instructions name registers that are there, jumps' targets aside
 
@@ -61,7 +62,7 @@ module _ (o : Options) (s : List ℕ) (t : Tree) (parses : parse s ≡ ok t) whe
 
   room : Room (roomOf (annotate t).1) (countsOf (assemble o t))
   unfolding countsOf assemble
-  room = record { numbers = omega arith; strings = omega (arith, length-spans o t 0 (annotate t).1.strings); values = omega arith }
+  room = record { numbers = omega arith; strings = omega (arith, length-spans 0 (annotate t).1.strings); values = omega arith }
 
   sections-fit : SectsFit (length (annotate t).0) (countsOf (assemble o t)) (sectionsOf (annotate t).0)
   sections-fit =

@@ -29,10 +29,10 @@ use Rattle.tables.proofs.Change.{machine_of, change-ok}
 use Rattle.replace.specs.Pass.{numbersBy, stringsBy, number_of, stringOf, sums, AddsAll, Plain, Ready}
 use Rattle.replace.proofs.Adding.{sums-nil, sums-cons}
 use Rattle.replace.proofs.Replaces.{replace-11}
-use Rattle.walks.specs.DemandProof.{numbers_stay, strings-stay}
-use Rattle.walks.specs.Fits.{MachineFit, InTables, runs-length, tables-fit}
-use Rattle.walks.specs.Parsed.{refused≢ok}
-use Rattle.walks.specs.Back.{tables-back}
+use Rattle.bounds.specs.Stay.{numbers_stay, strings-stay}
+use Rattle.machines.specs.Fits.{MachineFit, InTables, runs-length, tables-fit}
+use Rattle.bounds.specs.Parsed.{refused≢ok}
+use Rattle.machines.specs.Back.{tables-back}
 use Rattle.program.specs.Program.{over, Laid}
 use Rattle.lower.proofs.Assembled.{assembled-fit}
 

@@ -10,8 +10,8 @@ use Rattle.rules.specs.Constants.{mostDepth}
 use Rattle.rules.specs.Tree.{Tree, Expr, Block, goto, ite, assign, end}
 use Rattle.rules.specs.Parse.{Reader, At, succeed, refuse, ◌>>=◌, demand, bits, begin, many, block, operator, assignops, name_of}
 use Rattle.rules.specs.Parse.{gotoOf, iteOf, step_of, assignOf, stmtKinds, expr, stmt, names, fill, lineBlock, body, file, parse}
-use Rattle.walks.specs.Parsed.{refused≢ok, passed, parsed}
-use Rattle.walks.specs.Limits.{succeed-is}
+use Rattle.bounds.specs.Parsed.{refused≢ok, passed, parsed}
+use Rattle.bounds.specs.Limits.{succeed-is}
 use Rattle.stmts.specs.Lists.{deep}
 use Rattle.program.specs.Script.{deepest}
 

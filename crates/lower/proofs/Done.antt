@@ -18,9 +18,9 @@ use Rattle.rules.specs.Lowered.{Options, assemble, lowered}
 use Rattle.rules.specs.Operations.{put, write, size_of, estimate, holds, build, lower}
 use Rattle.replace.specs.Pass.{Rewrote}
 use Rattle.replace.proofs.Replaces.{replaced-counts, replaced-words}
-use Rattle.walks.specs.DemandProof.{numbers_stay}
-use Rattle.walks.specs.Estimate.{code-length, replaced-length, replaced-len, WithinEstimate, estimated}
-use Rattle.walks.specs.Fits.{runs-length}
+use Rattle.bounds.specs.Stay.{numbers_stay}
+use Rattle.bounds.specs.Estimate.{code-length, replaced-length, replaced-len, WithinEstimate, estimated}
+use Rattle.machines.specs.Fits.{runs-length}
 use Rattle.program.specs.Program.{Laid}
 use Rattle.lower.proofs.Words.{stays, then-zeros}
 use Rattle.lower.proofs.Before.{holds-lowered, counted, same_numbers, same-strings}

@@ -19,10 +19,10 @@ use Rattle.rules.specs.Word.{insWord}
 use Rattle.rules.specs.Tables.{Tables, Counts, allCode, encode, countsOf}
 use Rattle.rules.specs.Lowered.{Options, defaults, assemble}
 use Rattle.rules.specs.Operations.{Size, size_of, estimate, holds, build, lower}
-use Rattle.walks.specs.Parsed.{parsed}
-use Rattle.walks.specs.LimitsTree.{limits}
-use Rattle.walks.specs.Estimate.{estimated}
-use Rattle.walks.specs.Bounds.{small, few-lines}
+use Rattle.bounds.specs.Parsed.{parsed}
+use Rattle.bounds.specs.LimitsTree.{limits}
+use Rattle.bounds.specs.Estimate.{estimated}
+use Rattle.bounds.specs.Bounds.{small, few-lines}
 use Rattle.nodes.proofs.Width.{four}
 use Rattle.tables.proofs.Sound.{both}
 use Rattle.replace.specs.Pass.{Ready, Rewrote}

@@ -19,9 +19,10 @@ use Rattle.rules.specs.Annotate.{annotate}
 use Rattle.rules.specs.Replace.{replaced}
 use Rattle.rules.specs.Clean.{cleaned}
 use Rattle.rules.specs.Combine.{combined}
-use Rattle.walks.specs.DemandProof.{strings-stay, length-spans}
-use Rattle.walks.specs.Parsed.{refused≢ok}
-use Rattle.walks.specs.Bounds.{small}
+use Rattle.bounds.specs.Stay.{strings-stay}
+use Rattle.bounds.specs.Lengths.{length-spans}
+use Rattle.bounds.specs.Parsed.{refused≢ok}
+use Rattle.bounds.specs.Bounds.{small}
 use Rattle.walks.specs.Calls.{Finishes, finishes}
 use Rattle.tables.proofs.Sound.{sound}
 use Rattle.tables.proofs.Change.{machine_of}

@@ -18,10 +18,10 @@ use Rattle.rules.specs.Tables.{Tables}
 use Rattle.rules.specs.Lowered.{defaults}
 use Rattle.rules.specs.Operations.{Size, size_of, size, estimate, holds}
 use Rattle.rules.specs.Listing.{refusal, fitsFinlist, finlist}
-use Rattle.walks.specs.LimitsTree.{limits}
-use Rattle.walks.specs.Estimate.{estimated}
-use Rattle.walks.specs.Parsed.{refused≢ok}
-use Rattle.walks.specs.Bounds.{small}
+use Rattle.bounds.specs.LimitsTree.{limits}
+use Rattle.bounds.specs.Estimate.{estimated}
+use Rattle.bounds.specs.Parsed.{refused≢ok}
+use Rattle.bounds.specs.Bounds.{small}
 use Rattle.tree.specs.Files.{sized}
 use Rattle.tree.specs.declared.Sizes.{Sizes}
 use Rattle.tables.specs.Lent.{tables}

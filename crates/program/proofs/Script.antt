@@ -15,7 +15,7 @@ use Rattle.rules.specs.Tables.{runWords, allCode}
 use Rattle.rules.specs.Assemble.{stmtSections, sectionsMade, nextLine, head_of, tailOf, heads, tails}
 use Rattle.rules.specs.CodegenData.{CodegenData}
 use Rattle.rules.specs.Annotate.{annotateStmts, annotateLines}
-use Rattle.walks.specs.LowerWalk.{length-low, length-tailOf, heads-length}
+use Rattle.bounds.specs.Lengths.{length-low, length-tailOf, heads-length}
 use Rattle.nodes.specs.Holds.{HoldsB}
 use Rattle.nodes.specs.Width.{width}
 use Rattle.nodes.proofs.Table.{grows-b}

@@ -18,10 +18,10 @@ use Rattle.rules.specs.Assemble.{heads, tails, sectionsOf}
 use Rattle.rules.specs.CodegenData.{CodegenData}
 use Rattle.rules.specs.Annotate.{annotate, annotateStmts, annotateLines, fresh}
 use Rattle.rules.specs.Lowered.{Options, nameWords, spans, texts, assemble}
-use Rattle.walks.specs.LowerWalk.{heads-length}
-use Rattle.walks.specs.Own.{sizes}
-use Rattle.walks.specs.Estimate.{sections-length, names-length}
-use Rattle.walks.specs.DemandProof.{length-spans}
+use Rattle.bounds.specs.Lengths.{heads-length}
+use Rattle.bounds.specs.Own.{sizes}
+use Rattle.bounds.specs.Estimate.{sections-length, names-length}
+use Rattle.bounds.specs.Lengths.{length-spans}
 use Rattle.nodes.specs.Holds.{HoldsE, HoldsB, at-binop, at-unop, at-incdec, at-ident, at-number, at-string, at-end, at-goto, at-ite, at-step, at-assign}
 use Rattle.tree.specs.Files.{HoldsL, no_line, a-line, widths}
 use Rattle.tables.specs.Lent.{tables}

@@ -15,7 +15,7 @@ use Rattle.rules.specs.Script.{Stmts, nil, plain, isNil}
 use Rattle.rules.specs.Assemble.{orOne, sectionsMade, entry, link, inner, orEmpty, stmtSections, ownCode, cond_code}
 use Rattle.rules.specs.CodegenData.{CodegenData, scoped}
 use Rattle.rules.specs.Annotate.{annotateStmts, condition}
-use Rattle.walks.specs.LowerWalk.{length-low}
+use Rattle.bounds.specs.Lengths.{length-low}
 use Rattle.words.specs.Runs as Runs
 use Rattle.nodes.specs.Width.{width, orOne as orOneN}
 use Rattle.codegen.specs.declared.state.Counters.{Counters}

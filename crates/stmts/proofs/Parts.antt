@@ -13,7 +13,7 @@ use Rattle.rules.specs.Assemble.{stmtSections, ownCode, inner, link, orOne, sect
 use Rattle.rules.specs.CodegenData.{CodegenData, scoped}
 use Rattle.rules.specs.Operators.{codegenIncdec}
 use Rattle.rules.specs.Annotate.{annotateStmts, condition, lineNumber, codegenFromAssign}
-use Rattle.walks.specs.LowerWalk.{length-low, length-orEmpty}
+use Rattle.bounds.specs.Lengths.{length-low, length-orEmpty}
 use Rattle.nodes.specs.Width.{width, orOne as orOneN}
 use Rattle.nodes.specs.Words.{iteKind}
 use Rattle.nodes.proofs.Blocks.{tag}

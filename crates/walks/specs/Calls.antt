@@ -9,8 +9,8 @@ use Rattle.rules.specs.Lowered.{Options, lowered, finished}
 use Rattle.rules.specs.Operations.{lower, finish}
 use Rattle.rules.specs.Demand.{Demand}
 use Rattle.walks.specs.DemandProof.{demand3}
-use Rattle.walks.specs.Back.{Built, built}
-use Rattle.walks.specs.TreeFits.{lowered-fit, finished-fit}
+use Rattle.machines.specs.Back.{Built, built}
+use Rattle.machines.specs.TreeFits.{lowered-fit, finished-fit}
 
 pub record Lowers (o : Options) (s : List ℕ) (l : Tables) (u : Counts) : Type 0 where
   pub tree : Tree

@@ -1,6 +1,7 @@
 -- What the proof of demand 3 claims on the way: of any script that is read, and the sections that are made of it.
 use Rattle.std.specs.Prelude.{◌≡◌, ◌↔◌, List, [], ◌∷◌, map, ℕ, ◌<◌, length, get_or}
 use Rattle.std.proofs.Math.Option.{none}
+use Rattle.bounds.specs.Good.{GoodTree, GoodWhole, SectGood}
 use Rattle.rules.specs.Instr.{Instruction, shown}
 use Rattle.rules.specs.Machine.{SectionOrLine, unfixed, section, line, SectionCode, absent}
 use Rattle.rules.specs.Walk.{Ask, atJump, atGoto, ask, lost, End, more, over, walkSections, enters}
@@ -21,43 +22,13 @@ pub record Alike (v w : Walk) : Type 0 where
   pub meets : (n : ℕ) (l : List Instruction) → Meets v n l ↔ Meets w n l
   pub stops : (l : List Instruction) (q : Ask) → Stops v l q ↔ Stops w l q
 
--- ---- a script whose instructions are P, and whose gotos go by registers that are G; what stands behind a goto is not asked
-
-abbrev pub CodeGood : (Instruction → Type 0) → List Instruction → Type 0
-CodeGood P [] = Unit {0}
-CodeGood P (i ∷ c) = P (shown i) × CodeGood P c
-
-abbrev pub Good : (Instruction → Type 0) → (ℕ → Type 0) → Stmts → Type 0
-Good P G nil = Unit {0}
-Good P G (plain o s) = CodeGood P o × Good P G s
-Good P G (goto o r s) = CodeGood P o × G r
-Good P G (ite o c t u s) = CodeGood P o × P (condJump 0 c) × Good P G t × Good P G u × Good P G s
-
-abbrev pub GoodTree : (Instruction → Type 0) → (ℕ → Type 0) → Script → Type 0
-GoodTree P G [] = Unit {0}
-GoodTree P G (s ∷ t) = Good P G s × GoodTree P G t
+-- ---- where a walk ends: at a goto by a register that is G
 
 abbrev pub GoodEnd : (ℕ → Type 0) → End → Type 0
 GoodEnd G more = Unit {0}
 GoodEnd G (over (ask (atJump w))) = Unit {0}
 GoodEnd G (over (ask (atGoto r))) = G r
 GoodEnd G (over lost) = Unit {0}
-
--- ---- the same of every statement, and of a section
-
-abbrev pub GoodWhole : (Instruction → Type 0) → (ℕ → Type 0) → Stmts → Type 0
-GoodWhole P G nil = Unit {0}
-GoodWhole P G (plain o s) = CodeGood P o × GoodWhole P G s
-GoodWhole P G (goto o r s) = CodeGood P o × G r × GoodWhole P G s
-GoodWhole P G (ite o c t u s) = CodeGood P o × P (condJump 0 c) × GoodWhole P G t × GoodWhole P G u × GoodWhole P G s
-
-abbrev pub NextGood : (ℕ → Type 0) → SectionOrLine → Type 0
-NextGood G unfixed = Unit {0}
-NextGood G (section t) = Unit {0}
-NextGood G (line r) = G r
-
-abbrev pub SectGood : (Instruction → Type 0) → (ℕ → Type 0) → SectionCode → Type 0
-SectGood P G s = CodeGood P s.instrs × NextGood G s.success
 
 -- ---- demand 3 of a script t, read, and the sections m of L lines, walked
 

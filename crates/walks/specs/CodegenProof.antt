@@ -13,7 +13,7 @@ use Rattle.rules.specs.Instr.{Instruction}
 use Rattle.rules.specs.Machine.{SectionOrLine, unfixed, section, line, SectionCode, absent, isFixed}
 use Rattle.rules.specs.Script.{Stmts, nil, plain, goto, ite, Script, isNil}
 use Rattle.rules.specs.Assemble.{condJump, nextLine, orOne, sectionsMade, ownCode, entry, link, cond_code, inner, orEmpty, stmtSections, asStart, head_of, tailOf, lineSections, heads, tails, sectionsOf}
-use Rattle.walks.specs.LowerWalk.{length-low, length-orEmpty, length-tailOf}
+use Rattle.bounds.specs.Lengths.{length-low, length-orEmpty, length-tailOf}
 use Rattle.walks.specs.Codegen.{Ends, push, with_next, withIns, setNext, addIns, setEnd, reduce, linkUp, thenDone, elseDone, thenPart, elsePart, join, gen, swap, lineDone, fixLine, genLines, codegen}
 
 -- ---- the table, at a place

@@ -11,7 +11,7 @@ use Rattle.rules.specs.ReadScript.{Out, behind, erred, gone, stop, thenOn, and_t
 use Rattle.rules.specs.Demand.{Walk, Meets, Fewer, SameFirst}
 use Rattle.walks.specs.Claim.{Alike}
 use Rattle.joins.specs.Numbers.{lt-or-le}
-use Rattle.walks.specs.LowerWalk.{nextLine-lt}
+use Rattle.bounds.specs.Lengths.{nextLine-lt}
 
 -- ---- outcomes do not grow; a lively list uses one or meets an instruction
 

@@ -12,22 +12,25 @@ use Rattle.rules.specs.Combine.{combineSections, pair}
 use Rattle.rules.specs.Script.{Script}
 use Rattle.rules.specs.Assemble.{sectionsOf}
 use Rattle.rules.specs.ReadScript.{readScript}
-use Rattle.walks.specs.FinishedCode.{finish}
+use Rattle.machines.specs.FinishedCode.{finish}
 use Rattle.rules.specs.Demand.{SameWalk, prune}
-use Rattle.walks.specs.Claim.{Alike, Safe, SectGood, Demand3}
+use Rattle.walks.specs.Claim.{Alike, Safe, Demand3}
+use Rattle.bounds.specs.Good.{SectGood}
 use Rattle.walks.specs.Walks.{Within, within-trans, covers-within, covers-back, within-safe, same-walk}
 use Rattle.joins.specs.Along.{Ready, combine-ends}
 use Rattle.walks.specs.CombineWalk.{Kept, combine-keeps}
-use Rattle.walks.specs.CleanWalk.{clean-same, clean_ready}
+use Rattle.walks.specs.CleanWalk.{clean-same}
+use Rattle.machines.specs.Ranks.{clean_ready}
 use Rattle.walks.specs.Codegen.{codegen}
 use Rattle.walks.specs.CodegenProof.{codegen-is}
 use Rattle.rules.specs.Replace.{Regs, replaceSections}
 use Rattle.rules.specs.Reading.{repScript}
-use Rattle.walks.specs.ReplaceScript.{length-rep, lower-rep}
+use Rattle.bounds.specs.ReplaceScript.{length-rep, lower-rep}
 use Rattle.walks.specs.Count.{agree}
-use Rattle.walks.specs.FinishedCode.{everywhere, getD-good, finish-good}
+use Rattle.machines.specs.FinishedCode.{everywhere, getD-good, finish-good}
 use Rattle.walks.specs.Sides.{safe-enters, run-prune, within-good}
-use Rattle.walks.specs.LowerWalk.{lower-covers, lower-fixed, lower-starts, tree-safe}
+use Rattle.walks.specs.LowerWalk.{lower-covers, tree-safe}
+use Rattle.machines.specs.Lowered.{lower-fixed, lower-starts}
 
 module _ (t : Script) (pos : 0 < length t) where
   ready : Ready (length t) (cleanSections (sectionsOf t))

@@ -13,7 +13,7 @@ use Rattle.rules.specs.Operations.{write, change, fixedHere, allAhead, combineIn
 use Rattle.rules.specs.Walk.{walk, walkSections}
 use Rattle.walks.specs.Claim.{Alike}
 use Rattle.walks.specs.Walks.{same-walk}
-use Rattle.walks.specs.Parsed.{refused≢ok}
+use Rattle.bounds.specs.Parsed.{refused≢ok}
 use Rattle.laws.specs.Lists.{not-both}
 use Rattle.joins.specs.Along.{Fixed, Ready, combine-ends}
 use Rattle.walks.specs.CombineWalk.{combine-keeps}

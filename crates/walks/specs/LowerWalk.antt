@@ -8,6 +8,8 @@ use Rattle.std.proofs.Math.Nat.{mod-lt}
 use Rattle.std.proofs.Math.ListN.{get_or, get_or-append}
 use Rattle.std.proofs.Math.Seq.{get_or-append-add}
 use Rattle.std.proofs.lemmas.Bool.{eqb-false}
+use Rattle.bounds.specs.Lengths.{length-low, length-orEmpty, length-tailOf, nextLine-lt}
+use Rattle.machines.specs.Lowered.{SameAs, Stands, fits-cast, fits-left, fits-right, base, line-fits, at_head, fits-tail}
 use Rattle.rules.specs.Instr.{Instruction, isJump, shown, aimed}
 use Rattle.rules.specs.Machine.{SectionOrLine, unfixed, section, line, SectionCode, absent, isFixed}
 use Rattle.rules.specs.Walk.{Ask, atJump, atGoto, Halt, ask, lost, Step, to, done, End, more, over, Leg, pre, onto, run, State, Trace, follow, inside, through, enter, stepSection, walkSections, across}
@@ -18,61 +20,7 @@ use Rattle.walks.specs.Claim.{Safe}
 use Rattle.walks.specs.Walks.{Goes, Halts, goes-here, goes_step, halts-step, goes-goes, goes-halts, Match, m-to, m-done, covers, Covers}
 use Rattle.walks.specs.Renumber.{inside-append}
 use Rattle.laws.specs.Lists.{not-both}
-use Rattle.walks.specs.Jumps.{shown-aimed}
-
--- ---- how many sections
-
-pub length-orEmpty : (s : Stmts) (k : ℕ) (l : List SectionCode) → length l ≡ sectionsMade s → length (orEmpty s k l) ≡ orOne s (sectionsMade s)
-length-orEmpty nil k l h = refl
-length-orEmpty (plain o s) k l h = h
-length-orEmpty (goto o r s) k l h = h
-length-orEmpty (ite o c t f s) k l h = h
-
-pub length-low : (b : Bool) (e n k : ℕ) (s : Stmts) → length (stmtSections b e n k s) ≡ sectionsMade s
-length-low b e n k nil = refl
-length-low b e n k (plain o s) = ap suc (length-low b e (suc n) k s)
-length-low b e n k (goto o r s) = ap suc (length-low false e (suc n) k s)
-length-low b e n k (ite o c t f s) =
-    let nf = suc n + orOne t (sectionsMade t) in
-    let nj = nf + orOne f (sectionsMade f) in
-    let lt = stmtSections true e (suc n) nj t in
-    let lf = stmtSections true e nf nj f in
-    let ls = stmtSections b e (suc nj) k s in
-    let j = inner [] (link b (entry s (suc nj) k)) in
-    omega (
-      arith,
-      length-append (orEmpty t nj lt) (orEmpty f nj lf ++ (j ∷ ls)),
-      length-append (orEmpty f nj lf) (j ∷ ls),
-      length-orEmpty t nj lt (length-low true e (suc n) nj t),
-      length-orEmpty f nj lf (length-low true e nf nj f),
-      length-low b e (suc nj) k s,
-    )
-
--- ---- sections found in a machine: the first at p, the others from n + 1 on
-
-abbrev pub SameAs : SectionCode → SectionCode → Type 0
-SameAs a b = (a.instrs ≡ b.instrs) × (a.success ≡ b.success)
-
-abbrev pub Stands : List SectionCode → ℕ → ℕ → List SectionCode → Type 0
-Stands m p n [] = Unit {0}
-Stands m p n (s ∷ ss) = SameAs (get_or m p absent) s × Stands m (suc n) (suc n) ss
-
-pub fits-cast : (m : List SectionCode) (n n' : ℕ) (l : List SectionCode) → n ≡ n' → Stands m n n l → Stands m n' n' l
-fits-cast m n n' l e f = subst (λ (k : ℕ). Stands m k k l) e f
-
-pub fits-left : (m : List SectionCode) (n : ℕ) (a b : List SectionCode) → Stands m n n (a ++ b) → Stands m n n a
-fits-left m n [] b f = tt
-fits-left m n (s ∷ a) b f = (f.0, fits-left m (suc n) a b f.1)
-
-pub fits-right : (m : List SectionCode) (n : ℕ) (a b : List SectionCode) → Stands m n n (a ++ b) → Stands m (n + length a) (n + length a) b
-fits-right m n [] b f = fits-cast m n (n + 0) b (omega arith) f
-fits-right m n (s ∷ a) b f = fits-cast m (suc n + length a) (n + suc (length a)) b (omega arith) (fits-right m (suc n) a b f.1)
-
-fits-at : (m : List SectionCode) (n : ℕ) (b : List SectionCode) → ((u : ℕ) → get_or m (n + u) absent ≡ get_or b u absent) → Stands m n n b
-fits-at m n [] h = tt
-fits-at m n (s ∷ b) h =
-    let e : get_or m n absent ≡ s = ap (λ (k : ℕ). get_or m k absent) (omega arith) ∙ h 0 in
-    ((ap (λ (z : SectionCode). z.instrs) e, ap (λ (z : SectionCode). z.success) e), fits-at m (suc n) b (λ u. ap (λ (k : ℕ). get_or m k absent) (omega arith) ∙ h (suc u)))
+use Rattle.bounds.specs.Jumps.{shown-aimed}
 
 -- ---- a list's reading, followed by the machine
 
@@ -300,89 +248,18 @@ module _ (m : List SectionCode) (L e : ℕ) where
 
 -- ---- the lines
 
--- The number of the first section that is made for line u of ts, if the next to be made is n.
-unfoldable pub base : ℕ → Script → ℕ → ℕ
-base n [] u = n
-base n (s ∷ ss) zero = n
-base n (s ∷ ss) (suc u) = base (n + sectionsMade s) ss u
-
-pub heads-length : (L i n : ℕ) (ts : Script) → length (heads L i n ts) ≡ length ts
-heads-length L i n [] = refl
-heads-length L i n (s ∷ ts) = ap suc (heads-length L (suc i) (n + sectionsMade s) ts)
-
-heads-at : (L i n : ℕ) (ts : Script) (u : ℕ) → u < length ts
-    → get_or (heads L i n ts) u absent ≡ head_of (nextLine L (i + u)) (lineSections L (i + u) (base n ts u) (get_or ts u nil))
-unfolding base
-heads-at L i n [] u h = absurd (not-suc-le-zero h)
-heads-at L i n (s ∷ ts) zero h = ap (λ (k : ℕ). head_of (nextLine L k) (lineSections L k n s)) (omega arith)
-heads-at L i n (s ∷ ts) (suc u) h =
-    heads-at L (suc i) (n + sectionsMade s) ts u (le_of_suc-le-suc h)
-    ∙ ap (λ (k : ℕ). head_of (nextLine L k) (lineSections L k (base (n + sectionsMade s) ts u) (get_or ts u nil))) (omega arith)
-
-pub length-tailOf : (l : List SectionCode) → length (tailOf l) ≡ length l
-length-tailOf [] = refl
-length-tailOf (s ∷ l) = refl
-
-tails-at : (m : List SectionCode) (L i n : ℕ) (ts : Script) → Stands m n n (tails L i n ts) → (u : ℕ) → u < length ts
-    → Stands m (base n ts u) (base n ts u) (tailOf (lineSections L (i + u) (base n ts u) (get_or ts u nil)))
-unfolding base
-tails-at m L i n [] f u h = absurd (not-suc-le-zero h)
-tails-at m L i n (s ∷ ts) f zero h =
-    subst (λ (k : ℕ). Stands m n n (tailOf (lineSections L k n s))) (omega arith) (fits-left m n (tailOf (lineSections L i n s)) (tails L (suc i) (n + sectionsMade s) ts) f)
-tails-at m L i n (s ∷ ts) f (suc u) h =
-    let l = lineSections L i n s in
-    let g = fits-right m n (tailOf l) (tails L (suc i) (n + sectionsMade s) ts) f in
-    let g' = fits-cast m (n + length (tailOf l)) (n + sectionsMade s) (tails L (suc i) (n + sectionsMade s) ts) (omega (arith, length-tailOf l, length-low true (nextLine L i) n (nextLine L i) s)) g in
-    subst
-    (λ (k : ℕ). Stands m (base (n + sectionsMade s) ts u) (base (n + sectionsMade s) ts u) (tailOf (lineSections L k (base (n + sectionsMade s) ts u) (get_or ts u nil))))
-    (omega arith)
-    (tails-at m L (suc i) (n + sectionsMade s) ts g' u (le_of_suc-le-suc h))
-
-pub nextLine-lt : (L i : ℕ) → i < L → nextLine L i < L
-nextLine-lt L i h = go (eqb (suc i) L) refl
-  where
-    go : (b : Bool) → eqb (suc i) L ≡ b → nextLine L i < L
-    go true q = rw q (omega arith)
-    go false q = rw q (omega (arith, eqb-false (suc i) L q))
-
 module _ (m : List SectionCode) (L : ℕ) where
-  pub line-fits : (l : List SectionCode) (e u b : ℕ) → get_or m u absent ≡ head_of e l → Stands m b b (tailOf l) → Stands m u b l
-  line-fits [] e u b h f = tt
-  line-fits (s ∷ l) e u b h f = ((ap (λ (z : SectionCode). z.instrs) h, ap (λ (z : SectionCode). z.success) h), f.1)
-
   line-follows : (s : Stmts) (e u b : ℕ) → get_or m u absent ≡ head_of e (stmtSections true e b e s) → Stands m b b (tailOf (stmtSections true e b e s)) → (os : List ℕ)
       → Follows m L e 1 (u, os) e (read s os).0 (read s os).1
   unfolding st
   line-follows nil e u b h f os = goes_step (ap (λ (z : SectionCode). enter L z os) h)
-  line-follows (plain o s) e u b h f os = simulates m L e (plain o s) u b e (line-fits (stmtSections true e b e (plain o s)) e u b h f) os
-  line-follows (goto o r s) e u b h f os = simulates m L e (goto o r s) u b e (line-fits (stmtSections true e b e (goto o r s)) e u b h f) os
-  line-follows (ite o c t v s) e u b h f os = simulates m L e (ite o c t v s) u b e (line-fits (stmtSections true e b e (ite o c t v s)) e u b h f) os
+  line-follows (plain o s) e u b h f os = simulates m L e (plain o s) u b e (line-fits m L (stmtSections true e b e (plain o s)) e u b h f) os
+  line-follows (goto o r s) e u b h f os = simulates m L e (goto o r s) u b e (line-fits m L (stmtSections true e b e (goto o r s)) e u b h f) os
+  line-follows (ite o c t v s) e u b h f os = simulates m L e (ite o c t v s) u b e (line-fits m L (stmtSections true e b e (ite o c t v s)) e u b h f) os
 
 module _ (t : Script) (pos : 0 < length t) where
   abbrev L : ℕ
   L = length t
-
-  pub at_head : (u : ℕ) → u < length t → get_or (sectionsOf t) u absent ≡ head_of (nextLine L u) (lineSections L u (base L t u) (get_or t u nil))
-  unfolding sectionsOf
-  at_head u h =
-      get_or-append (heads L 0 L t) (tails L 0 L t) absent u (rw (heads-length L 0 L t) h)
-      ∙ (heads-at L 0 L t u h ∙ ap (λ (k : ℕ). head_of (nextLine L k) (lineSections L k (base L t u) (get_or t u nil))) (omega arith))
-
-  fits-tails : Stands (sectionsOf t) L L (tails L 0 L t)
-  unfolding sectionsOf
-  fits-tails =
-      fits-at
-      (sectionsOf t)
-      L
-      (tails L 0 L t)
-      (λ u. ap (λ (n : ℕ). get_or (sectionsOf t) (n + u) absent) (sym (heads-length L 0 L t)) ∙ get_or-append-add (heads L 0 L t) (tails L 0 L t) u absent)
-
-  pub fits-tail : (u : ℕ) → u < length t → Stands (sectionsOf t) (base L t u) (base L t u) (tailOf (lineSections L u (base L t u) (get_or t u nil)))
-  fits-tail u h =
-      subst
-      (λ (k : ℕ). Stands (sectionsOf t) (base L t u) (base L t u) (tailOf (lineSections L k (base L t u) (get_or t u nil))))
-      (omega arith)
-      (tails-at (sectionsOf t) L 0 L t fits-tails u h)
 
   R : State → State → Type 0
   R a b = (a ≡ b) × (a.0 < length t)
@@ -405,29 +282,13 @@ module _ (t : Script) (pos : 0 < length t) where
       let u = a.0 in
       let s = get_or t u nil in
       let y = read s a.1 in
-      to-match a h y.0 y.1 refl (line-follows (sectionsOf t) (length t) s (nextLine L u) u (base L t u) (at_head u h) (fits-tail u h) a.1)
+      to-match a h y.0 y.1 refl (line-follows (sectionsOf t) (length t) s (nextLine L u) u (base L t u) (at_head t pos u h) (fits-tail t pos u h) a.1)
       )
 
   -- The lowered machine's walk is the tree's.
   pub lower-covers : (os : List ℕ) → Covers (readScript t os) (walkSections (sectionsOf t) (length t) os)
   unfolding R
   lower-covers os k = covers (stepLine t) (stepSection (sectionsOf t) (length t)) R sim k (0, os) (0, os) (refl, pos)
-
-  head_fixed : (e b : ℕ) (s : Stmts) → isFixed (head_of e (stmtSections true e b e s)).success ≡ true
-  head_fixed e b nil = refl
-  head_fixed e b (plain o s) = refl
-  head_fixed e b (goto o r s) = refl
-  head_fixed e b (ite o c u v s) = refl
-
-  head-start : (e : ℕ) (l : List SectionCode) → (head_of e l).lineStart ≡ true
-  head-start e [] = refl
-  head-start e (s ∷ l) = refl
-
-  pub lower-fixed : (u : ℕ) → u < length t → isFixed (get_or (sectionsOf t) u absent).success ≡ true
-  lower-fixed u h = ap (λ (z : SectionCode). isFixed z.success) (at_head u h) ∙ head_fixed (nextLine L u) (base L t u) (get_or t u nil)
-
-  pub lower-starts : (u : ℕ) → u < length t → (get_or (sectionsOf t) u absent).lineStart ≡ true
-  lower-starts u h = ap (λ (z : SectionCode). z.lineStart) (at_head u h) ∙ head-start (nextLine L u) (lineSections L u (base L t u) (get_or t u nil))
 
 -- ---- a reading is never lost
 

@@ -7,7 +7,7 @@ use Rattle.rules.specs.Walk.{Ask, atJump, atGoto, Halt, ask, lost, Step, to, don
 use Rattle.rules.specs.Clean.{renIns, renNext, ren}
 use Rattle.rules.specs.Combine.{without}
 use Rattle.walks.specs.Walks.{Goes, Halts, goes_step, halts-step, goes-goes, goes-halts, Match, m-to, m-done}
-use Rattle.walks.specs.Jumps.{shown-aimed}
+use Rattle.bounds.specs.Jumps.{shown-aimed}
 
 abbrev pub mapRes : (ℕ → ℕ) → Step State → Step State
 mapRes f (to s) = to (f s.0, s.1)

@@ -13,7 +13,8 @@ use Rattle.rules.specs.Script.{Stmts, nil, plain, goto, ite, Script, isNil}
 use Rattle.rules.specs.Assemble.{condJump, nextLine}
 use Rattle.rules.specs.ReadScript.{Out, behind, erred, gone, stop, thenOn, and_then, readOwn, readGoto, readIf, readCond, read, onward, stepLine, readScript, readIns}
 use Rattle.rules.specs.Demand.{Walk, All, prune}
-use Rattle.walks.specs.Claim.{Safe, CodeGood, Good, GoodTree, GoodEnd}
+use Rattle.walks.specs.Claim.{Safe, GoodEnd}
+use Rattle.bounds.specs.Good.{CodeGood, Good, GoodTree}
 use Rattle.walks.specs.Walks.{Below, Within}
 use Rattle.joins.specs.Numbers.{lt-or-le}
 

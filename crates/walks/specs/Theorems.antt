@@ -23,17 +23,19 @@ use Rattle.rules.specs.Demand.{SameWalk, Demand}
 use Rattle.walks.specs.Claim.{Alike}
 use Rattle.walks.specs.Walks.{same-walk}
 use Rattle.walks.specs.Codegen.{codegen}
+use Rattle.walks.specs.CodegenProof.{codegen-is}
 use Rattle.joins.specs.Along.{Ready, combine-ends}
 use Rattle.joins.specs.Pairs.{Pair}
 use Rattle.walks.specs.CombineWalk.{join-keeps, combine-keeps}
 use Rattle.joins.specs.Joins.{length-join}
 use Rattle.walks.specs.FinishWalk.{low_same, clean_is}
-use Rattle.walks.specs.LimitsTree.{limits}
-use Rattle.walks.specs.Estimate.{WithinEstimate, estimated}
-use Rattle.walks.specs.Bounds.{Small, small}
-use Rattle.walks.specs.TreeFits.{pos, lines_are, lowered-fits, cleaned-fits, finished-fits}
+use Rattle.bounds.specs.LimitsTree.{limits}
+use Rattle.bounds.specs.Estimate.{WithinEstimate, estimated}
+use Rattle.bounds.specs.Bounds.{Small, small}
+use Rattle.machines.specs.TreeFits.{pos, lines_are, lowered-fits, cleaned-fits, finished-fits}
+use Rattle.bounds.specs.Stay as Stay
 use Rattle.walks.specs.DemandProof as Proof
-use Rattle.walks.specs.Passes as Passes
+use Rattle.machines.specs.Passes as Passes
 use Rattle.walks.specs.Calls.{Finishes, finishes}
 use Rattle.walks.specs.Handed.{Combines, combines}
 
@@ -71,12 +73,13 @@ module _ (o : Options) (s : List ℕ) (t : Tree) (accepted : parse s ≡ ok t) w
       let k = script t in
       subst
       (λ (m : List SectionCode). SameWalk (walkSections m (lowered o t).lines os) (readScript k os))
-      (sym (Proof.lowered-sections o t))
+      (sym (Stay.lowered-sections o t))
       (subst (λ (L : ℕ). SameWalk (walkSections (sectionsOf k) L os) (readScript k os)) (sym (lines_are o t l)) (low_same k (pos o t l) os))
 
   -- makes the sections that codegen.rs makes,
   pub lowered-by-codegen : (assemble o t).sections ≡ codegen (annotate t).0
-  lowered-by-codegen = Passes.assembled-by-steps o t
+  unfolding assemble
+  lowered-by-codegen = sym (codegen-is (annotate t).0)
 
   -- keeps within the estimates,
   pub lowered-estimated : WithinEstimate (countsOf (lowered o t)) (estimate (size_of t))
@@ -88,10 +91,10 @@ module _ (o : Options) (s : List ℕ) (t : Tree) (accepted : parse s ≡ ok t) w
 
   -- Replacement adds no register: numbers and strings are those that lowering counted.
   pub numbers_stay : (lowered o t).numbers ≡ (assemble o t).numbers
-  numbers_stay = Proof.numbers_stay o t
+  numbers_stay = Stay.numbers_stay o t
 
   pub strings-stay : (lowered o t).strings ≡ (assemble o t).strings
-  strings-stay = Proof.strings-stay o t
+  strings-stay = Stay.strings-stay o t
 
   -- Cleaning does not refuse it (13 never occurs), and keeps each step of its walk.
   pub cleaned-is : (l : Tables) → cleanIn l (lowered o t) ≡ ok (cleaned (lowered o t))
@@ -103,7 +106,7 @@ module _ (o : Options) (s : List ℕ) (t : Tree) (accepted : parse s ≡ ok t) w
       let l = limits s t accepted in
       let c = script t in
       let a = lines_are o t l in
-      let b = Proof.lowered-sections o t in
+      let b = Stay.lowered-sections o t in
       ap₂ (λ (m : List SectionCode) (L : ℕ). walkSections (cleanSections m) L os k) b a ∙ (clean_is c (pos o t l) os k ∙ sym (ap₂ (λ (m : List SectionCode) (L : ℕ). walkSections m L os k) b a))
 
   -- Combining does not refuse the cleaned machine (neither 14 nor 15 occurs), and leaves no pair.

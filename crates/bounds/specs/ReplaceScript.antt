@@ -11,7 +11,7 @@ use Rattle.rules.specs.Assemble.{nextLine, orOne, sectionsMade, ownCode, entry, 
 use Rattle.rules.specs.Replace.{Rule, stays, goes, turns, number, result, blank, rules, lookup, ruleFor, ruleOf, Regs, replaceBy, replaceIns, replaceCode, with_code, replaceSections}
 use Rattle.rules.specs.Reading.{repAll, repFirst, repRest, firsts, rests, repScript}
 use Rattle.rules.specs.Demand.{All}
-use Rattle.walks.specs.Jumps.{aimed-other}
+use Rattle.bounds.specs.Jumps.{aimed-other}
 
 -- ---- jumps stay
 

@@ -13,20 +13,18 @@ use Rattle.rules.specs.Reading.{script}
 use Rattle.rules.specs.Replace.{replaced}
 use Rattle.rules.specs.Clean.{cleanSections, cleaned}
 use Rattle.rules.specs.Combine.{combineSections, combined}
-use Rattle.walks.specs.Codegen.{codegen}
 use Rattle.rules.specs.Lowered.{Options, assemble, lowered, finished}
 use Rattle.rules.specs.Annotate.{annotate}
 use Rattle.rules.specs.Operations.{size_of, estimate, fixedHere, jumpsFixed, cleanIn, allAhead, combineIn}
-use Rattle.walks.specs.CleanWalk.{rank-low}
+use Rattle.machines.specs.Ranks.{rank-low}
 use Rattle.joins.specs.Along.{Ready}
-use Rattle.walks.specs.CodegenProof.{codegen-is}
-use Rattle.walks.specs.LowerWalk.{lower-fixed}
-use Rattle.walks.specs.DemandProof.{lowered-sections}
-use Rattle.walks.specs.LimitsTree.{Limits, limits}
-use Rattle.walks.specs.Estimate.{codeLen, code-length, WithinEstimate, estimated}
-use Rattle.walks.specs.TreeFits.{Sizes, pos, ready, finish-counts, lines_are}
-use Rattle.walks.specs.Accepts.{all-fixed, clean-test}
-use Rattle.walks.specs.Ahead.{all-test, clean-ahead}
+use Rattle.machines.specs.Lowered.{lower-fixed}
+use Rattle.bounds.specs.Stay.{lowered-sections}
+use Rattle.bounds.specs.LimitsTree.{Limits, limits}
+use Rattle.bounds.specs.Estimate.{codeLen, code-length, WithinEstimate, estimated}
+use Rattle.machines.specs.TreeFits.{Sizes, pos, ready, finish-counts, lines_are}
+use Rattle.machines.specs.Accepts.{all-fixed, clean-test}
+use Rattle.machines.specs.Ahead.{all-test, clean-ahead}
 
 -- Cleaning accepts the lowered machine: 13 never occurs.
 pub clean-accepts : (o : Options) (s : List ℕ) (t : Tree) → parse s ≡ ok t → (l : Tables) → cleanIn l (lowered o t) ≡ ok (cleaned (lowered o t))
@@ -73,8 +71,3 @@ finished-estimated o s t e =
       pool = w.pool;
       names = w.names;
     }
-
--- The assembled sections are those that codegen.rs's steps make: pushed, linked afterwards, and swapped.
-pub assembled-by-steps : (o : Options) (t : Tree) → (assemble o t).sections ≡ codegen (annotate t).0
-unfolding assemble
-assembled-by-steps o t = sym (codegen-is (annotate t).0)

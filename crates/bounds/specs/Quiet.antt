@@ -9,11 +9,11 @@ use Rattle.rules.specs.Assemble.{condJump}
 use Rattle.rules.specs.Replace.{Rule, stays, goes, turns, number, result, blank, rules, lookup, ruleFor, ruleOf, Regs, replaceBy, replaceIns, replaceCode}
 use Rattle.rules.specs.Reading.{repAll, repFirst, repRest, firsts, rests, repScript}
 use Rattle.rules.specs.Demand.{All, FieldsBelow, RegistersBelow}
-use Rattle.walks.specs.Claim.{CodeGood, Good, GoodTree, GoodWhole}
-use Rattle.walks.specs.Jumps.{aimed-other}
+use Rattle.bounds.specs.Good.{CodeGood, Good, GoodTree, GoodWhole}
+use Rattle.bounds.specs.Jumps.{aimed-other}
 use Rattle.laws.specs.Lists.{not-both}
-use Rattle.walks.specs.Room.{adds, Ok}
-use Rattle.walks.specs.Own.{Whole}
+use Rattle.bounds.specs.Room.{adds, Ok}
+use Rattle.bounds.specs.Own.{Whole}
 
 -- ---- a jump's target aside
 

@@ -14,9 +14,9 @@ use Rattle.rules.specs.Machine.{SectionOrLine, SectionCode, Machine}
 use Rattle.rules.specs.Tables.{Tables, Counts, fits, readSections, decode, successOf, flag, kind_of, target_of, run_of, runWords, allCode, encode, countsOf}
 use Rattle.rules.specs.Operations.{size_of, estimate, holds, put, write, build}
 use Rattle.rules.specs.Demand.{All}
-use Rattle.walks.specs.Estimate.{codeLen, code-length}
-use Rattle.walks.specs.Parsed.{refused≢ok}
-use Rattle.walks.specs.Fits.{Held, Counted, SectFit, SpanFit, AllAt, MachineFit, InTables, tables-fit, ins-back, op-small, field-small, next-back, flag_one, section-back, runs-length}
+use Rattle.bounds.specs.Estimate.{codeLen, code-length}
+use Rattle.bounds.specs.Parsed.{refused≢ok}
+use Rattle.machines.specs.Fits.{Held, Counted, SectFit, SpanFit, AllAt, MachineFit, InTables, tables-fit, ins-back, op-small, field-small, next-back, flag_one, section-back, runs-length}
 
 -- ---- instructions, sections, strings
 

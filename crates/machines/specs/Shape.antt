@@ -10,14 +10,14 @@ use Rattle.rules.specs.Assemble.{nextLine, sectionsMade, stmtSections, head_of, 
 use Rattle.rules.specs.Clean.{renIns, renNext, ren, keep, rank, cleanSections}
 use Rattle.rules.specs.Combine.{hit, refsNext, refsIns, refsCode, joined, combineAt, combineSections}
 use Rattle.rules.specs.Demand.{All}
-use Rattle.walks.specs.LowerWalk.{heads-length}
+use Rattle.bounds.specs.Lengths.{heads-length}
 use Rattle.joins.specs.References.{no-hit}
 use Rattle.joins.specs.Numbers.{lt-or-le, fall-low, fall-high}
 use Rattle.joins.specs.Along.{Ready, behind-lines, join-ready, combine-along}
 use Rattle.joins.specs.Pairs.{Pair}
 use Rattle.joins.specs.Joins.{Came, came, Stands, joint, other, stands, clear-at, first-in, second-in, length-join}
-use Rattle.walks.specs.Fits.{loose, AllAt}
-use Rattle.walks.specs.Targets.{JumpBelow, NextBelow, Aims, Loose, tails-loose}
+use Rattle.machines.specs.Fits.{loose, AllAt}
+use Rattle.machines.specs.Targets.{JumpBelow, NextBelow, Aims, Loose, tails-loose}
 
 -- ---- lists by their elements
 

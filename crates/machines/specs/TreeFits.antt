@@ -21,25 +21,25 @@ use Rattle.rules.specs.Clean.{renIns, ren, keep, rank, cleanSections, cleaned}
 use Rattle.rules.specs.Combine.{without, joined, combineAt, combineSections, combined}
 use Rattle.rules.specs.Lowered.{Options, spans, texts, lowered, finished}
 use Rattle.rules.specs.Demand.{All, RegistersBelow}
-use Rattle.walks.specs.Claim.{SectGood}
-use Rattle.walks.specs.CleanWalk.{clean_ready}
-use Rattle.joins.specs.Along.{Ready, behind-lines, combine-along}
-use Rattle.walks.specs.CombineWalk.{Kept, combine-keeps}
+use Rattle.bounds.specs.Good.{SectGood}
+use Rattle.machines.specs.Ranks.{clean_ready}
+use Rattle.joins.specs.Along.{Ready, behind-lines, combine-along, combine-ready}
 use Rattle.joins.specs.Pairs.{Pair}
 use Rattle.joins.specs.Joins.{first-in, second-in, length-join}
-use Rattle.walks.specs.LowerWalk.{lower-fixed, lower-starts}
-use Rattle.walks.specs.FinishedCode.{lower-good, clean-good, combined-good}
-use Rattle.walks.specs.Room.{Room, roomOf, Fine, NameBelow}
-use Rattle.walks.specs.Own.{sizes, annotate-made}
-use Rattle.walks.specs.DemandProof.{strings-stay, numbers_stay, length-spans, good-for, lowered-sections, script-lines}
-use Rattle.walks.specs.LimitsTree.{Limits, limits}
-use Rattle.walks.specs.Estimate.{codeLen, code-length, sections-length}
-use Rattle.walks.specs.Bounds.{Small, small}
-use Rattle.walks.specs.Fits.{Counted, SpanFit, MachineFit, encoded-fits, loose}
-use Rattle.walks.specs.Targets.{Aims, Loose, lower-aims, clean-aims, clean-length}
-use Rattle.walks.specs.Shape.{combine-aims, Inner, combine-inner, lower-later, clean-inner, keep_some}
-use Rattle.walks.specs.Texts.{annotate-short, spans_fit, names-fit}
-use Rattle.walks.specs.Held.{SectsFit, machine-fit}
+use Rattle.machines.specs.Lowered.{lower-fixed, lower-starts}
+use Rattle.machines.specs.FinishedCode.{lower-good, clean-good, combined-good}
+use Rattle.bounds.specs.Room.{Room, roomOf, Fine, NameBelow}
+use Rattle.bounds.specs.Own.{sizes, annotate-made}
+use Rattle.bounds.specs.Stay.{strings-stay, numbers_stay, good-for, lowered-sections, script-lines}
+use Rattle.bounds.specs.Lengths.{length-spans}
+use Rattle.bounds.specs.LimitsTree.{Limits, limits}
+use Rattle.bounds.specs.Estimate.{codeLen, code-length, sections-length}
+use Rattle.bounds.specs.Bounds.{Small, small}
+use Rattle.machines.specs.Fits.{Counted, SpanFit, MachineFit, encoded-fits, loose}
+use Rattle.machines.specs.Targets.{Aims, Loose, lower-aims, clean-aims, clean-length}
+use Rattle.machines.specs.Shape.{combine-aims, Inner, combine-inner, lower-later, clean-inner, keep_some}
+use Rattle.machines.specs.Texts.{annotate-short, spans_fit, names-fit}
+use Rattle.machines.specs.Held.{SectsFit, machine-fit}
 
 -- ---- how much code is left
 
@@ -170,7 +170,7 @@ module _ (o : Options) (t : Tree) (lim : Limits t) where
         record {
           good = combined-good (RegistersBelow u) (λ n. n < u.numbers) m clean-fit.good;
           aims = combine-aims (length (script t)) pos m ready clean-fit.aims;
-          starts = (combine-keeps (length (script t)) pos m ready).ready.starts;
+          starts = (combine-ready (length (script t)) m ready).starts;
           later = λ n h p.
               let x = get_or (combineSections m) n absent in
               inner-loose x.lineStart (isFixed x.success) (eqb (length x.instrs) 0) (combine-inner (length (script t)) pos m ready (clean-inner (script t)) n h p);
@@ -207,7 +207,7 @@ module _ (o : Options) (t : Tree) (lim : Limits t) where
   the-room w s =
       record {
         numbers = omega (arith, ap length s.numbers, ap length (numbers_stay o t));
-        strings = omega (arith, ap length s.strings, ap length (strings-stay o t), length-spans o t 0 (annotate t).1.strings);
+        strings = omega (arith, ap length s.strings, ap length (strings-stay o t), length-spans 0 (annotate t).1.strings);
         values = omega (arith, s.values);
       }
 

@@ -11,8 +11,8 @@ use Rattle.rules.specs.Constants.{mostDepth}
 use Rattle.rules.specs.Parse.{Reader, At, succeed, refuse, ◌>>=◌, demand, bits, begin, many, block, operator, assignops, name_of}
 use Rattle.rules.specs.Parse.{gotoOf, iteOf, step_of, assignOf, stmtKinds, expr, stmt, known, name, names, fill, lineBlock, body, file, parse}
 use Rattle.rules.specs.Demand.{All}
-use Rattle.walks.specs.Parsed.{refused≢ok, Passed, passed, demanded, many-length, Parsed, parsed, some-line}
-use Rattle.walks.specs.Limits.{Reads, reads-seq, reads_as, reads_here, succeed-is, BitsRead, bits-read, bits-reads, demand-reads, one, begin-reads, operator-reads, name-reads, sum, many-reads, oneChar, char-reads, sum-chars, ShortExpr, ReadExpr, Sound, none_left, expr-read}
+use Rattle.bounds.specs.Parsed.{refused≢ok, Passed, passed, demanded, many-length, Parsed, parsed, some-line}
+use Rattle.bounds.specs.Limits.{Reads, reads-seq, reads_as, reads_here, succeed-is, BitsRead, bits-read, bits-reads, demand-reads, one, begin-reads, operator-reads, name-reads, sum, many-reads, oneChar, char-reads, sum-chars, ShortExpr, ReadExpr, Sound, none_left, expr-read}
 
 abbrev pub ShortBlock : Block → Type 0
 ShortBlock end = Unit {0}

@@ -9,9 +9,9 @@ use Rattle.rules.specs.Script.{Stmts, nil, plain, goto, ite, Script}
 use Rattle.rules.specs.Assemble.{nextLine, orOne, sectionsMade, ownCode, entry, link, cond_code, inner, orEmpty, stmtSections, head_of, tailOf, lineSections, heads, tails, sectionsOf}
 use Rattle.rules.specs.Clean.{renNext, ren, keep, rank, cleanSections}
 use Rattle.rules.specs.Operations.{nextAhead, allAhead}
-use Rattle.walks.specs.LowerWalk.{length-low, length-orEmpty, nextLine-lt, heads-length, length-tailOf}
+use Rattle.bounds.specs.Lengths.{length-low, length-orEmpty, nextLine-lt, heads-length, length-tailOf}
 use Rattle.laws.specs.Lists.{not-both}
-use Rattle.walks.specs.Fits.{AllAt}
+use Rattle.machines.specs.Fits.{AllAt}
 
 -- Section p's successor is a line, or ahead.
 abbrev Ahead : ℕ → ℕ → SectionOrLine → Type 0

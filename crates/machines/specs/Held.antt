@@ -8,12 +8,12 @@ use Rattle.rules.specs.Instr.{Row, Instruction, isJump, shown, Kind, unused, num
 use Rattle.rules.specs.Machine.{SectionOrLine, unfixed, section, line, SectionCode, absent, Machine}
 use Rattle.rules.specs.Tables.{Counts, countsOf, allb, allCode, nameFits}
 use Rattle.rules.specs.Demand.{All, FieldBelow, FieldsBelow, RegistersBelow}
-use Rattle.walks.specs.Claim.{CodeGood, NextGood, SectGood}
-use Rattle.walks.specs.Jumps.{aimed-other}
+use Rattle.bounds.specs.Good.{CodeGood, NextGood, SectGood}
+use Rattle.bounds.specs.Jumps.{aimed-other}
 use Rattle.laws.specs.Lists.{not-both}
-use Rattle.walks.specs.Fits.{row_of, isPlace, Holds, Held, Counted, SectFit, NextFit, SpanFit, MachineFit}
-use Rattle.walks.specs.Targets.{JumpBelow, NextBelow, Aims, Loose}
-use Rattle.walks.specs.Shape.{all-at, numbered}
+use Rattle.machines.specs.Fits.{row_of, isPlace, Holds, Held, Counted, SectFit, NextFit, SpanFit, MachineFit}
+use Rattle.machines.specs.Targets.{JumpBelow, NextBelow, Aims, Loose}
+use Rattle.machines.specs.Shape.{all-at, numbered}
 
 -- ---- only jumps hold a section
 

@@ -9,9 +9,9 @@ use Rattle.rules.specs.Script.{Stmts, nil, plain, goto, ite, Script}
 use Rattle.rules.specs.Assemble.{nextLine, orOne, sectionsMade, ownCode, entry, link, condJump, cond_code, inner, orEmpty, stmtSections, head_of, tailOf, lineSections, heads, tails, sectionsOf}
 use Rattle.rules.specs.Clean.{renIns, renNext, ren, keep, rank, cleanSections}
 use Rattle.rules.specs.Demand.{All}
-use Rattle.walks.specs.LowerWalk.{nextLine-lt}
-use Rattle.walks.specs.Own.{sizes}
-use Rattle.walks.specs.Fits.{loose}
+use Rattle.bounds.specs.Lengths.{nextLine-lt}
+use Rattle.bounds.specs.Own.{sizes}
+use Rattle.machines.specs.Fits.{loose}
 
 abbrev pub JumpBelow : ℕ → Instruction → Type 0
 JumpBelow n i = isJump i ≡ true → i.fst < n

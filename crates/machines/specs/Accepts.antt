@@ -13,10 +13,11 @@ use Rattle.rules.specs.Clean.{renNext, ren, keep, rank, cleanSections}
 use Rattle.rules.specs.Tables.{allb}
 use Rattle.rules.specs.Operations.{fixedHere, jumpFixed, jumpsFixed, nextAhead, allAhead}
 use Rattle.rules.specs.Demand.{All}
-use Rattle.walks.specs.LowerWalk.{length-low, length-orEmpty, SameAs, Stands, fits-cast, fits-left, fits-right, base, line-fits, at_head, fits-tail, nextLine-lt, lower-fixed, heads-length, length-tailOf}
+use Rattle.bounds.specs.Lengths.{length-low, length-orEmpty, nextLine-lt, heads-length, length-tailOf}
+use Rattle.machines.specs.Lowered.{SameAs, Stands, fits-cast, fits-left, fits-right, base, line-fits, at_head, fits-tail, lower-fixed}
 use Rattle.joins.specs.Along.{Fixed, Ready}
-use Rattle.walks.specs.Fits.{AllAt}
-use Rattle.walks.specs.Shape.{all_of}
+use Rattle.machines.specs.Fits.{AllAt}
+use Rattle.machines.specs.Shape.{all_of}
 
 pub all_true : {A : Type 0} (p : A → Bool) (l : List A) → All (λ a. p a ≡ true) l → allb p l ≡ true
 unfolding allb

@@ -15,10 +15,11 @@ use Rattle.rules.specs.Replace.{Rule, stays, goes, turns, number, result, blank,
 use Rattle.rules.specs.Lowered.{Options, nameWords, spans, texts, assemble, lowered}
 use Rattle.rules.specs.Operations.{Size, size_of, estimate}
 use Rattle.rules.specs.Demand.{All}
-use Rattle.walks.specs.LowerWalk.{length-low, length-tailOf, heads-length}
-use Rattle.walks.specs.Room.{Went}
-use Rattle.walks.specs.Own.{code_of, sizes, codes, MadeAll, annotate-made}
-use Rattle.walks.specs.DemandProof.{numbers_stay, strings-stay, length-spans}
+use Rattle.bounds.specs.Lengths.{length-low, length-tailOf, heads-length}
+use Rattle.bounds.specs.Room.{Went}
+use Rattle.bounds.specs.Own.{code_of, sizes, codes, MadeAll, annotate-made}
+use Rattle.bounds.specs.Stay.{numbers_stay, strings-stay}
+use Rattle.bounds.specs.Lengths.{length-spans}
 
 -- ---- sections
 
@@ -162,7 +163,7 @@ estimated o t =
       sections = omega (arith, replaced-length p σ m, sections-length ss, a.long, a.size-most);
       instrs = omega (arith, code-length x, replaced-len p σ m, sections-len ss, a.code-most);
       numbers = omega (arith, ap length (numbers_stay o t), w.numbers-most);
-      strings = ap length (strings-stay o t) ∙ (length-spans o t 0 g.strings ∙ omega (arith, w.strings-are));
+      strings = ap length (strings-stay o t) ∙ (length-spans 0 g.strings ∙ omega (arith, w.strings-are));
       pool = omega (arith, w.pool-is);
       names = names-length o t.names g.names (omega (arith, w.names-are, length-replicate {A = Option ℕ} (length t.names) none));
     }

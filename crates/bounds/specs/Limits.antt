@@ -12,7 +12,7 @@ use Rattle.rules.specs.Tree as Tree
 use Rattle.rules.specs.Constants.{mostDepth, mostNodes}
 use Rattle.rules.specs.Parse.{Reader, At, succeed, refuse, ◌>>=◌, demand, bits, begin, many, block, operator, binops, unops, assignops, name_of, signed}
 use Rattle.rules.specs.Parse.{binopOf, unopOf, incdecOf, identOf, number_of, stringOf, exprKinds, gotoOf, iteOf, step_of, assignOf, stmtKinds, expr, stmt, known, name, names, fill, lineBlock, body, file, parse}
-use Rattle.walks.specs.Parsed.{refused≢ok, Passed, passed, demanded, many-length, parsed}
+use Rattle.bounds.specs.Parsed.{refused≢ok, Passed, passed, demanded, many-length, parsed}
 
 -- ---- fields
 

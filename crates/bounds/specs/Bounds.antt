@@ -9,9 +9,9 @@ use Rattle.rules.specs.Tables.{Counts, countsOf}
 use Rattle.rules.specs.Annotate.{annotate, fresh}
 use Rattle.rules.specs.Lowered.{Options, lowered}
 use Rattle.rules.specs.Operations.{size_of, estimate}
-use Rattle.walks.specs.LimitsTree.{Limits, limits}
-use Rattle.walks.specs.Own.{annotate-made}
-use Rattle.walks.specs.Estimate.{WithinEstimate, estimated}
+use Rattle.bounds.specs.LimitsTree.{Limits, limits}
+use Rattle.bounds.specs.Own.{annotate-made}
+use Rattle.bounds.specs.Estimate.{WithinEstimate, estimated}
 
 pub record Few (k : Tally) : Type 0 where
   pub statements : k.statements ≤ k.nodes

@@ -17,8 +17,8 @@ use Rattle.rules.specs.Operators.{getVariable, copyValreg, makeTruthy, numberify
 use Rattle.rules.specs.Annotate.{codegenFromExpr, store, assignBy, codegenFromAssign, condition, lineNumber, annotateStmts, annotateLines, fresh, annotate}
 use Rattle.rules.specs.Lowered.{texts}
 use Rattle.rules.specs.Demand.{All}
-use Rattle.walks.specs.Room.{adds, Ok, ok₂, Room, code-grows, roomOf, NameBelow, Fine, Cost, cost, plus, Went, seq, Most, within, room, went-here, went-emit, went-num, went-str}
-use Rattle.walks.specs.Steps.{MadeVal, MadeNum, value_made, copy-made, copy-new, truthy-made, numberify-made, valueify-made, numbered-made, arith-made, binary-made, unary-made, incdec-made, last}
+use Rattle.bounds.specs.Room.{adds, Ok, ok₂, Room, code-grows, roomOf, NameBelow, Fine, Cost, cost, plus, Went, seq, Most, within, room, went-here, went-emit, went-num, went-str}
+use Rattle.bounds.specs.Steps.{MadeVal, MadeNum, value_made, copy-made, copy-new, truthy-made, numberify-made, valueify-made, numbered-made, arith-made, binary-made, unary-made, incdec-made, last}
 
 -- ---- expressions
 

@@ -14,7 +14,7 @@ use Rattle.rules.specs.Replace.{rules, lookup}
 use Rattle.rules.specs.CodegenData.{CodegenData, emit, newNum, newStr, newVal, bindName}
 use Rattle.rules.specs.Operators.{errorJump, getVariable, copyValreg, makeTruthy, numberify, makeVal, makeLogicBinop, guard, makeArithBinop, makeCmpBinop, makeNe, applyInPlace, applyBinop, makeNot, applyInNumber, applyUnop, incdecOp, codegenIncdec}
 use Rattle.rules.specs.Demand.{All, FieldBelow}
-use Rattle.walks.specs.Room.{adds, Ok, ok₁, ok₂, ok₃, Room, field-grows, roomOf, NameBelow, Fine, Cost, cost, plus, Went, seq, Most, within, room, went-here, went-emit, went-num, went-val, went-bind}
+use Rattle.bounds.specs.Room.{adds, Ok, ok₁, ok₂, ok₃, Room, field-grows, roomOf, NameBelow, Fine, Cost, cost, plus, Went, seq, Most, within, room, went-here, went-emit, went-num, went-val, went-bind}
 
 -- A step that gives a value register, and one that gives a number register.
 pub record MadeVal (c : Cost) (g : CodegenData) (x : ℕ × CodegenData) : Type 0 where

@@ -17,10 +17,10 @@ use Rattle.rules.specs.Operators.{getVariable, copyValreg, makeTruthy, numberify
 use Rattle.rules.specs.Annotate.{codegenFromExpr, store, assignBy, codegenFromAssign, condition, lineNumber, annotateStmts, annotateLines, fresh, annotate}
 use Rattle.rules.specs.Lowered.{Options, nameWord, protects, nameWords, spans, texts}
 use Rattle.rules.specs.Demand.{All}
-use Rattle.walks.specs.Room.{NameBelow}
-use Rattle.walks.specs.Limits.{ShortExpr}
-use Rattle.walks.specs.LimitsTree.{ShortBlock}
-use Rattle.walks.specs.Fits.{SpanFit}
+use Rattle.bounds.specs.Room.{NameBelow}
+use Rattle.bounds.specs.Limits.{ShortExpr}
+use Rattle.bounds.specs.LimitsTree.{ShortBlock}
+use Rattle.machines.specs.Fits.{SpanFit}
 
 -- ---- operators leave the strings as they are
 

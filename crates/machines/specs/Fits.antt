@@ -16,7 +16,7 @@ use Rattle.rules.specs.Constants.{stringLayout, mark}
 use Rattle.rules.specs.Machine.{SectionOrLine, unfixed, section, line, SectionCode, isFixed, Machine}
 use Rattle.rules.specs.Tables.{Tables, Counts, allb, fieldFits, insFits, successOf, successFits, startFits, runsFit, spanFits, nameFits, countFits, countsFit, wordsFit, fits, flag, kind_of, target_of, run_of, runWords, allCode, encode, countsOf}
 use Rattle.rules.specs.Demand.{All, FieldBelow, FieldsBelow, RegistersBelow}
-use Rattle.walks.specs.Estimate.{codeLen, code-length}
+use Rattle.bounds.specs.Estimate.{codeLen, code-length}
 
 -- ---- tests
 

@@ -9,8 +9,8 @@ use Rattle.rules.specs.Combine.{pair, without, joined, combineAt, combineFuel, c
 use Rattle.rules.specs.Script.{Stmts, nil, plain, goto, ite, Script}
 use Rattle.rules.specs.Assemble.{condJump, nextLine, orOne, sectionsMade, ownCode, entry, link, cond_code, inner, orEmpty, stmtSections, head_of, tailOf, lineSections, heads, tails, sectionsOf}
 use Rattle.rules.specs.Demand.{All}
-use Rattle.walks.specs.Claim.{GoodWhole, CodeGood, NextGood, SectGood}
-use Rattle.walks.specs.Jumps.{shown-aimed}
+use Rattle.bounds.specs.Good.{GoodWhole, CodeGood, NextGood, SectGood}
+use Rattle.bounds.specs.Jumps.{shown-aimed}
 
 -- A script's sections, cleaned and combined.
 unfoldable pub finish : Script → List SectionCode
