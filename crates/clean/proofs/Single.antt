@@ -10,9 +10,8 @@ use Rattle.rules.specs.Bits.{isOne}
 use Rattle.rules.specs.Constants.{mark}
 use Rattle.rules.specs.Word.{wordRun, runWord}
 use Rattle.rules.specs.Machine.{SectionOrLine}
-use Rattle.rules.specs.Tables.{successOf}
+use Rattle.rules.specs.Tables.{successOf, runOf}
 use Rattle.laws.specs.Words.{run_small}
-use Rattle.words.specs.Runs.{run_of}
 use Rattle.clean.specs.Pass.{first_of, newNumber, packedWord}
 
 pub first_at : (ss : List ℕ) (t : ℕ) → get_or (map first_of ss) t 0 ≡ (wordRun (get_or ss t 0)).first
@@ -31,6 +30,6 @@ number_small ss n k h t = by (ltb t n)
     by true = rw (first_at ss t) (less (wordRun (get_or ss t 0)).first (run_small (get_or ss t 0)).1.1.1.0)
     by false = less k h
 
-pub packed-word : (k w : ℕ) (l : Bool) (s : SectionOrLine) (c r : ℕ) → r ≡ runWord (run_of l s k c) → l ≡ isOne (wordRun w).lineStart → s ≡ successOf (wordRun w) → c ≡ (wordRun w).count → r ≡ packedWord k w
+pub packed-word : (k w : ℕ) (l : Bool) (s : SectionOrLine) (c r : ℕ) → r ≡ runWord (runOf l s k c) → l ≡ isOne (wordRun w).lineStart → s ≡ successOf (wordRun w) → c ≡ (wordRun w).count → r ≡ packedWord k w
 unfolding packedWord
 packed-word k w l s c r e p q d = e ∙ rw (p, q, d)

@@ -3,7 +3,7 @@ use Rattle.std.specs.Prelude.{Bool, true, false, cond, ◌≡◌, List, [], ◌�
 use Rattle.rules.specs.Bits.{isOne}
 use Rattle.rules.specs.Instr.{isJump}
 use Rattle.rules.specs.Word.{wordRun, runWord, wordIns, insWord}
-use Rattle.rules.specs.Tables.{successOf, runWords, allCode}
+use Rattle.rules.specs.Tables.{successOf, runWords, allCode, runOf}
 use Rattle.rules.specs.Clean.{renIns, renNext, rank, cleanSections}
 use Rattle.rules.specs.Operations.{put}
 use Rattle.words.specs.Runs as Runs
@@ -51,7 +51,7 @@ pub record Numbered (ss ss' : List ℕ) (n kept : ℕ) : Type 0 where
 
 -- a section's word with its run from instruction k on
 unfoldable pub packedWord : ℕ → ℕ → ℕ
-packedWord k w = runWord (Runs.run_of (isOne (wordRun w).lineStart) (successOf (wordRun w)) k (wordRun w).count)
+packedWord k w = runWord (runOf (isOne (wordRun w).lineStart) (successOf (wordRun w)) k (wordRun w).count)
 
 -- the kept words, runs from instruction k on; and their instructions
 unfoldable pub packed : ℕ → List ℕ → List ℕ

@@ -13,10 +13,10 @@ use Rattle.rules.specs.Constants.{mark}
 use Rattle.rules.specs.Instr.{Kind, kinds}
 use Rattle.rules.specs.Word.{insWord, wordIns, insSpare, Run, runWord, wordRun, runSpare}
 use Rattle.rules.specs.Machine.{unfixed, section, line}
-use Rattle.rules.specs.Tables.{Tables, Counts, allb, insFits, fieldFits, successFits, startFits, runsFit, flag, kind_of, target_of, successOf, readSections, runWords, allCode}
+use Rattle.rules.specs.Tables.{Tables, Counts, allb, insFits, fieldFits, successFits, startFits, runsFit, flag, kind_of, target_of, successOf, readSections, runWords, allCode, runOf}
 use Rattle.rules.specs.Demand.{All}
 use Rattle.laws.specs.Words.{InsSmall, ins-small, ins-again, run_small, run-again}
-use Rattle.words.specs.Runs.{run, run_of}
+use Rattle.words.specs.Runs.{run}
 use Rattle.words.proofs.Sections.{to-line, to_none, to-section}
 use Rattle.tables.specs.Rules.{sectionFits}
 use Rattle.tables.specs.Runs.{count_of, total, sectionOf, held}
@@ -121,7 +121,7 @@ same-run : {a b c d e a' b' c' d' e' : ℕ} → a ≡ a' → b ≡ b' → c ≡ 
 same-run p q r s t = cc
 
 -- the word of what was read of a word
-word-again : (w k : ℕ) (is : List ℕ) → w < 2 ^ 64 → runSpare w ≡ 0 → (wordRun w).first ≡ k → count_of w ≤ length is → runWord (run_of (isOne (wordRun w).lineStart) (successOf (wordRun w)) k (length (map wordIns (take (wordRun w).count is)))) ≡ w
+word-again : (w k : ℕ) (is : List ℕ) → w < 2 ^ 64 → runSpare w ≡ 0 → (wordRun w).first ≡ k → count_of w ≤ length is → runWord (runOf (isOne (wordRun w).lineStart) (successOf (wordRun w)) k (length (map wordIns (take (wordRun w).count is)))) ≡ w
 unfolding count_of
 word-again w k is h z f l =
     ap runWord (same-run (flag-again (wordRun w).lineStart (run_small w).0) (kind-again (wordRun w) _ _ refl refl (run_small w).1.0) (target-again (wordRun w) _ _ refl refl) (sym f) (simp (length-map, length-take-le (wordRun w).count is l)))

@@ -13,7 +13,9 @@ use Rattle.rules.specs.Instr.{Instruction, isJump, fall}
 use Rattle.rules.specs.Machine.{SectionOrLine, unfixed, section, line, SectionCode, absent}
 use Rattle.rules.specs.Clean.{renIns, renNext, ren}
 use Rattle.rules.specs.Combine.{hit, refsNext, refsCode, refs, mayTake, mate, without, joined, combineAt}
-use Rattle.walks.specs.CombineWalk.{cond-hit, Pair, lt-or-le, fall-low, fall-high, without-fall}
+use Rattle.walks.specs.CombineWalk.{cond-hit, without-fall}
+use Rattle.joins.specs.Pairs.{Pair}
+use Rattle.joins.specs.Numbers.{lt-or-le, fall-low, fall-high}
 
 -- ---- numbers fall alike
 -- numbers that are not j are the same where they fall to the same

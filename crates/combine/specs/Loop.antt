@@ -9,7 +9,7 @@ use Rattle.rules.specs.Machine.{SectionCode, absent}
 use Rattle.rules.specs.Tables.{runWords, allCode}
 use Rattle.rules.specs.Operations.{put, allAhead}
 use Rattle.rules.specs.Combine.{mate, combineAt, combineFuel, combineSections}
-use Rattle.walks.specs.CombineWalk.{Pair}
+use Rattle.joins.specs.Pairs.{Pair}
 use Rattle.tables.specs.Runs.{held}
 use Rattle.tables.proofs.Read.{words-length}
 use Rattle.join.specs.Held.{Holds, Sound, Changed}

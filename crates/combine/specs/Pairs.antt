@@ -12,7 +12,9 @@ use Rattle.rules.specs.Machine.{SectionOrLine, unfixed, section, line, SectionCo
 use Rattle.rules.specs.Combine.{refs, mayTake, mate, pairFrom, pair, combineAt, combineFuel}
 use Rattle.rules.specs.Operations.{nextAhead, allAhead}
 use Rattle.combine.specs.Tests.{at-elem, at-past}
-use Rattle.walks.specs.CombineWalk.{Pair, true≢false, lt-or-le}
+use Rattle.joins.specs.Pairs.{Pair}
+use Rattle.walks.specs.CombineWalk.{true≢false}
+use Rattle.joins.specs.Numbers.{lt-or-le}
 use Rattle.combine.specs.Kept.{Forward, Low}
 
 pub both : (a b : Bool) → (a && b) ≡ true → (a ≡ true) × (b ≡ true)

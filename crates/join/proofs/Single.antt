@@ -7,8 +7,7 @@ use Rattle.rules.specs.Instr.{fall}
 use Rattle.rules.specs.Clean.{renNext}
 use Rattle.rules.specs.Word.{runWord, wordRun}
 use Rattle.rules.specs.Machine.{SectionOrLine}
-use Rattle.rules.specs.Tables.{successOf}
-use Rattle.words.specs.Runs.{run_of}
+use Rattle.rules.specs.Tables.{successOf, runOf}
 use Rattle.tables.specs.Runs.{count_of}
 use Rattle.join.specs.Passes.{mergedWord, word_at}
 
@@ -17,10 +16,10 @@ unfolding count_of
 count-field w c e = e
 
 pub merged-is : (u v : ℕ) (p : Bool) (x : SectionOrLine) (f c d r : ℕ) → p ≡ isOne (wordRun u).lineStart → x ≡ successOf (wordRun v) → f ≡ (wordRun u).first → c ≡ (wordRun u).count → d ≡ (wordRun v).count →
-    r ≡ runWord (run_of p x f (c + d)) → r ≡ mergedWord u v
+    r ≡ runWord (runOf p x f (c + d)) → r ≡ mergedWord u v
 unfolding mergedWord
 merged-is u v p x f c d r hp hx hf hc hd e = e ∙ rw (hp, hx, hf, hc, hd)
 
-pub word-is : (j k w : ℕ) (p : Bool) (x y : SectionOrLine) (c r : ℕ) → p ≡ isOne (wordRun w).lineStart → x ≡ successOf (wordRun w) → y ≡ renNext (fall j) x → c ≡ (wordRun w).count → r ≡ runWord (run_of p y k c) → r ≡ word_at j k w
+pub word-is : (j k w : ℕ) (p : Bool) (x y : SectionOrLine) (c r : ℕ) → p ≡ isOne (wordRun w).lineStart → x ≡ successOf (wordRun w) → y ≡ renNext (fall j) x → c ≡ (wordRun w).count → r ≡ runWord (runOf p y k c) → r ≡ word_at j k w
 unfolding word_at
 word-is j k w p x y c r hp hx hy hc e = e ∙ rw (hp, hy, hx, hc)

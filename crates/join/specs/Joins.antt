@@ -13,13 +13,12 @@ use Rattle.std.proofs.lemmas.List.{get_or_at, set_at}
 use Rattle.rules.specs.Instr.{Instruction, fall}
 use Rattle.rules.specs.Word.{runWord, wordRun, insWord}
 use Rattle.rules.specs.Machine.{section, SectionCode, absent}
-use Rattle.rules.specs.Tables.{runWords, allCode}
+use Rattle.rules.specs.Tables.{runWords, allCode, runOf}
 use Rattle.rules.specs.Operations.{put}
 use Rattle.rules.specs.Clean.{renIns, ren}
 use Rattle.rules.specs.Combine.{joined, combineAt}
 use Rattle.rules.specs.Demand.{All}
 use Rattle.laws.specs.Words.{InsSmall}
-use Rattle.words.specs.Runs.{run_of}
 use Rattle.tables.specs.Runs.{count_of, total}
 use Rattle.tables.proofs.Read.{words-length}
 use Rattle.join.specs.Held.{SectSmall, Holds, Changed}
@@ -79,10 +78,10 @@ module _ (ps ms zs : List SectionCode) (a b : SectionCode) (R Q : List ℕ) (i j
 
   -- the words of a and b
   abbrev wa : ℕ
-  wa = runWord (run_of a.lineStart a.success ka (length a.instrs))
+  wa = runWord (runOf a.lineStart a.success ka (length a.instrs))
 
   abbrev wb : ℕ
-  wb = runWord (run_of b.lineStart b.success kb (length b.instrs))
+  wb = runWord (runOf b.lineStart b.success kb (length b.instrs))
 
   abbrev A : List ℕ
   A = runWords 0 ps

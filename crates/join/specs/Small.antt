@@ -8,7 +8,7 @@ use Rattle.rules.specs.Tables.{allCode}
 use Rattle.rules.specs.Clean.{renIns, renNext, ren}
 use Rattle.rules.specs.Demand.{All}
 use Rattle.laws.specs.Words.{InsSmall, ins-back}
-use Rattle.walks.specs.CombineWalk.{lt-or-le, fall-low, fall-high}
+use Rattle.joins.specs.Numbers.{lt-or-le, fall-low, fall-high}
 use Rattle.join.specs.Held.{NextSmall, SectSmall}
 use Rattle.join.specs.Passes.{jumpFallen}
 

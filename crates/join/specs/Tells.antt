@@ -7,12 +7,11 @@ use Rattle.rules.specs.Constants.{mark}
 use Rattle.rules.specs.Instr.{fall}
 use Rattle.rules.specs.Word.{runWord, wordRun}
 use Rattle.rules.specs.Machine.{SectionOrLine, unfixed, section, line, SectionCode}
-use Rattle.rules.specs.Tables.{kind_of, target_of, successOf, runWords, allCode}
+use Rattle.rules.specs.Tables.{kind_of, target_of, successOf, runWords, allCode, runOf}
 use Rattle.rules.specs.Clean.{renNext, ren}
 use Rattle.rules.specs.Combine.{joined}
 use Rattle.rules.specs.Demand.{All}
 use Rattle.laws.specs.Words.{run-back}
-use Rattle.words.specs.Runs.{run_of}
 use Rattle.laws.specs.Success.{flag-lt, kind-lt}
 use Rattle.machines.specs.Fits.{flag_one}
 use Rattle.join.specs.Held.{NextSmall, SectSmall}
@@ -45,26 +44,26 @@ target-lt unfixed h = omega arith
 target-lt (section t) h = omega arith
 target-lt (line r) h = h
 
-next-back : (b : Bool) (x : SectionOrLine) (f c : ℕ) → NextSmall x → successOf (run_of b x f c) ≡ x
+next-back : (b : Bool) (x : SectionOrLine) (f c : ℕ) → NextSmall x → successOf (runOf b x f c) ≡ x
 unfolding successOf kind_of target_of isOne
 next-back b unfixed f c h = refl
 next-back b (section t) f c h = rw (ne_eqb t mark (λ e. omega arith), successOf)
 next-back b (line r) f c h = refl
 
 module _ (b : Bool) (x : SectionOrLine) (f c : ℕ) (h : NextSmall x) (p : f < 65536) (q : c < 65536) where
-  fields_back : wordRun (runWord (run_of b x f c)) ≡ run_of b x f c
-  fields_back = run-back (run_of b x f c) (flag-lt b, (kind-lt x, (target-lt x h, (p, (q, tt)))))
+  fields_back : wordRun (runWord (runOf b x f c)) ≡ runOf b x f c
+  fields_back = run-back (runOf b x f c) (flag-lt b, (kind-lt x, (target-lt x h, (p, (q, tt)))))
 
-  pub start_is : isOne (wordRun (runWord (run_of b x f c))).lineStart ≡ b
+  pub start_is : isOne (wordRun (runWord (runOf b x f c))).lineStart ≡ b
   start_is = rw fields_back (flag_one b)
 
-  pub next-is : successOf (wordRun (runWord (run_of b x f c))) ≡ x
+  pub next-is : successOf (wordRun (runWord (runOf b x f c))) ≡ x
   next-is = rw fields_back (next-back b x f c h)
 
-  pub first-is : (wordRun (runWord (run_of b x f c))).first ≡ f
+  pub first-is : (wordRun (runWord (runOf b x f c))).first ≡ f
   first-is = rw fields_back
 
-  pub count-is : (wordRun (runWord (run_of b x f c))).count ≡ c
+  pub count-is : (wordRun (runWord (runOf b x f c))).count ≡ c
   count-is = rw fields_back
 
 -- ---- the words of sections
@@ -73,7 +72,7 @@ pub no_words : (k : ℕ) → runWords k [] ≡ []
 unfolding runWords
 no_words k = refl
 
-pub words-cons : (k : ℕ) (s : SectionCode) (ss : List SectionCode) → runWords k (s ∷ ss) ≡ runWord (run_of s.lineStart s.success k (length s.instrs)) ∷ runWords (k + length s.instrs) ss
+pub words-cons : (k : ℕ) (s : SectionCode) (ss : List SectionCode) → runWords k (s ∷ ss) ≡ runWord (runOf s.lineStart s.success k (length s.instrs)) ∷ runWords (k + length s.instrs) ss
 unfolding runWords
 words-cons k s ss = refl
 
@@ -100,7 +99,7 @@ words_append k (x ∷ xs) ys =
     rw (words-cons k x (xs ++ ys), words-cons k x xs, words_append (k + length x.instrs) xs ys, z)
 
 -- the word of a section tells it
-pub tells : (s : SectionCode) (k : ℕ) → SectSmall s → k + length s.instrs ≤ 65535 → Tells (runWord (run_of s.lineStart s.success k (length s.instrs))) s
+pub tells : (s : SectionCode) (k : ℕ) → SectSmall s → k + length s.instrs ≤ 65535 → Tells (runWord (runOf s.lineStart s.success k (length s.instrs))) s
 tells s k h l =
     let p : k < 65536 = omega arith in
     let q : length s.instrs < 65536 = omega arith in
@@ -133,7 +132,7 @@ merged u v a b p q h f l =
       count = count-is x y (wordRun u).first d n f c ∙ (rw (p.count, q.count) (sym (length-append a.instrs b.instrs)));
     }
 
-word-at : (j k w : ℕ) (s : SectionCode) → Tells w s → word_at j k w ≡ runWord (run_of s.lineStart (renNext (fall j) s.success) k (length s.instrs))
+word-at : (j k w : ℕ) (s : SectionCode) → Tells w s → word_at j k w ≡ runWord (runOf s.lineStart (renNext (fall j) s.success) k (length s.instrs))
 unfolding word_at
 word-at j k w s t = rw (t.start, t.next, t.count)
 
@@ -156,7 +155,7 @@ settles j k [] (s ∷ ss) t = absurd t
 settles j k (w ∷ ws) [] t = absurd t
 settles j k (w ∷ ws) (s ∷ ss) t =
     rw (numbers-cons, words-cons k (ren (fall j) s) (map (ren (fall j)) ss), word-at j k w s t.0, tells-count w s t.0, length-map)
-    (ap (λ (r : List ℕ). runWord (run_of s.lineStart (renNext (fall j) s.success) k (length s.instrs)) ∷ r) (settles j (k + length s.instrs) ws ss t.1))
+    (ap (λ (r : List ℕ). runWord (runOf s.lineStart (renNext (fall j) s.success) k (length s.instrs)) ∷ r) (settles j (k + length s.instrs) ws ss t.1))
 
 pub tell-total : (ws : List ℕ) (ss : List SectionCode) → Tell ws ss → total ws ≡ length (allCode ss)
 unfolding total

@@ -1,7 +1,7 @@
 pub mod Stores
 pub mod Pack
 pub mod Words
-pub mod Success
+pub mod SectionWord
 pub mod Small
 pub mod Match
 pub mod Table

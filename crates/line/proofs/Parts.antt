@@ -11,7 +11,7 @@ use Rattle.rules.specs.Tree.{Block, end, ite, assign, ofBlock, statement, node, 
 use Rattle.rules.specs.Instr.{Instruction}
 use Rattle.rules.specs.Word.{insWord, runWord}
 use Rattle.rules.specs.Machine.{SectionCode, section, absent}
-use Rattle.rules.specs.Tables.{runWords, allCode}
+use Rattle.rules.specs.Tables.{runWords, allCode, runOf}
 use Rattle.rules.specs.Assemble.{stmtSections, sectionsMade, entry, asStart}
 use Rattle.rules.specs.CodegenData.{CodegenData}
 use Rattle.rules.specs.Annotate.{annotateStmts}
@@ -61,7 +61,7 @@ parted {hs} {ts} {n = n} {at = at} x y =
     }
 
 -- an empty line
-pub line-none : {m line n head : ℕ} {c : Counters} {t : Lent} {se se' : List ℕ} → se' ≡ set se line (runWord (Runs.run_of true (section c.err.0) head (head - head)))
+pub line-none : {m line n head : ℕ} {c : Counters} {t : Lent} {se se' : List ℕ} → se' ≡ set se line (runWord (runOf true (section c.err.0) head (head - head)))
     → (e : ℕ) (b : Lent) (g : CodegenData) → Regs m e b c t g → LineWent m e line n head head b c t t se se' c (annotateStmts end g)
 unfolding annotateStmts
 line-none {line = line} {n} {head} {c} {t} {se} {se'} w e b g q =

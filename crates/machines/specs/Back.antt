@@ -8,36 +8,23 @@ use Rattle.rules.specs.Bits.{Res, refused, ok, isOne}
 use Rattle.rules.specs.Tree.{Tree}
 use Rattle.rules.specs.Parse.{parse}
 use Rattle.rules.specs.Instr.{Instruction, Kind, kinds}
+use Rattle.laws.specs.Lists.{all-left, all-right}
+use Rattle.laws.specs.SectionWord.{flag-back, next-back, fields-back}
 use Rattle.laws.specs.Words as Words
 use Rattle.rules.specs.Word.{insWord, wordIns, Run, runWord, wordRun, Span, spanWord, wordSpan}
 use Rattle.rules.specs.Machine.{SectionOrLine, SectionCode, Machine}
-use Rattle.rules.specs.Tables.{Tables, Counts, fits, readSections, decode, successOf, flag, kind_of, target_of, run_of, runWords, allCode, encode, countsOf}
+use Rattle.rules.specs.Tables.{Tables, Counts, fits, readSections, decode, successOf, flag, kind_of, target_of, sectionRun, runWords, allCode, encode, countsOf}
 use Rattle.rules.specs.Operations.{size_of, estimate, holds, put, write, build}
 use Rattle.rules.specs.Demand.{All}
 use Rattle.bounds.specs.Estimate.{codeLen, code-length}
 use Rattle.bounds.specs.Parsed.{refused≢ok}
-use Rattle.machines.specs.Fits.{Held, Counted, SectFit, SpanFit, AllAt, MachineFit, InTables, tables-fit, ins-back, op-small, field-small, next-back, flag_one, section-back, runs-length}
+use Rattle.machines.specs.Fits.{Held, Counted, SectFit, SpanFit, AllAt, MachineFit, InTables, tables-fit, ins-small, next-small, runs-length}
 
 -- ---- instructions, sections, strings
 
-held_back : (u : Counts) → Counted u → (i : Instruction) → Held u (kinds i.op) i → wordIns (insWord i) ≡ i
-held_back u c i h = go (kinds i.op) refl h
-  where
-    go : (k : Option (Kind × Kind × Kind)) → kinds i.op ≡ k → Held u k i → wordIns (insWord i) ≡ i
-    go none e q = absurd q
-    go (some k) e q = ins-back i (omega (arith, op-small i.op k e)) (field-small u c k.0 i.fst q.0) (field-small u c k.1 i.snd q.1) (field-small u c k.2 i.thd q.2)
-
 code-back : (u : Counts) → Counted u → (c : List Instruction) → All (λ (i : Instruction). Held u (kinds i.op) i) c → map wordIns (map insWord c) ≡ c
 code-back u c [] h = refl
-code-back u c (i ∷ l) h = ap₂ (λ (x : Instruction) (y : List Instruction). x ∷ y) (held_back u c i h.0) (code-back u c l h.1)
-
-all_left : {A : Type 0} (P : A → Type 0) (a b : List A) → All P (a ++ b) → All P a
-all_left P [] b h = tt
-all_left P (x ∷ a) b h = (h.0, all_left P a b h.1)
-
-all_right : {A : Type 0} (P : A → Type 0) (a b : List A) → All P (a ++ b) → All P b
-all_right P [] b h = h
-all_right P (x ∷ a) b h = all_right P a b h.1
+code-back u c (i ∷ l) h = rw (Words.ins-back i (ins-small u c i h.0), code-back u c l h.1)
 
 abbrev sectOf : Bool → List Instruction → SectionOrLine → SectionCode
 sectOf a c x = record { lineStart = a; instrs = c; success = x }
@@ -55,7 +42,7 @@ sections-back u c i k (s ∷ ss) f h e =
     let n = length s.instrs in
     let rest = allCode ss in
     let is = map insWord (s.instrs ++ rest) in
-    let back = section-back u c i s k f.0 (omega arith) (omega arith) in
+    let back = fields-back s.lineStart s.success k (length s.instrs) (next-small u c s.success f.0.success) (omega arith) (omega arith) in
     let two : is ≡ map insWord s.instrs ++ map insWord rest = map-append insWord s.instrs rest in
     let l : length (map insWord s.instrs) ≡ n = length-map s.instrs insWord in
     let t : take n is ≡ map insWord s.instrs = ap (take n) two ∙ take_at (map insWord s.instrs) (map insWord rest) n l in
@@ -63,11 +50,11 @@ sections-back u c i k (s ∷ ss) f h e =
     ap (λ (r : Run). readOne r is ∷ readSections (runWords (k + n) ss) (drop r.count is)) back
     ∙ ap₂
     (λ (x : SectionCode) (y : List SectionCode). x ∷ y)
-    (one u c i k s f.0 is (ap (map wordIns) t ∙ code-back u c s.instrs (all_left H s.instrs rest (h))))
-    (ap (readSections (runWords (k + n) ss)) d ∙ sections-back u c (suc i) (k + n) ss f.1 (all_right H s.instrs rest h) (omega arith))
+    (one u c i k s f.0 is (ap (map wordIns) t ∙ code-back u c s.instrs (all-left H s.instrs rest (h))))
+    (ap (readSections (runWords (k + n) ss)) d ∙ sections-back u c (suc i) (k + n) ss f.1 (all-right H s.instrs rest h) (omega arith))
   where
-    one : (u : Counts) → Counted u → (i k : ℕ) (s : SectionCode) → SectFit u i s → (is : List ℕ) → map wordIns (take (length s.instrs) is) ≡ s.instrs → readOne (run_of s k) is ≡ s
-    one u c i k s f is e = parts (flag_one s.lineStart) e (next-back u c s.success f.success (flag s.lineStart) k (length s.instrs))
+    one : (u : Counts) → Counted u → (i k : ℕ) (s : SectionCode) → SectFit u i s → (is : List ℕ) → map wordIns (take (length s.instrs) is) ≡ s.instrs → readOne (sectionRun s k) is ≡ s
+    one u c i k s f is e = parts (flag-back s.lineStart) e (next-back s.success (flag s.lineStart) k (length s.instrs) (next-small u c s.success f.success))
       where
         parts : {a : Bool} {d : List Instruction} {x : SectionOrLine} → a ≡ s.lineStart → d ≡ s.instrs → x ≡ s.success → sectOf a d x ≡ sectOf s.lineStart s.instrs s.success
         parts p q r = cc

@@ -10,11 +10,13 @@ use Rattle.std.proofs.lemmas.List.{length-map}
 use Rattle.std.proofs.lemmas.Bool.{eqb-false}
 use Rattle.rules.specs.Bits.{isOne}
 use Rattle.rules.specs.Instr.{Row, Instruction, isJump, Kind, unused, num, str, val, place, table, kinds}
-use Rattle.laws.specs.Words as Words
+use Rattle.laws.specs.Table.{opcode-bits}
+use Rattle.laws.specs.Words.{InsSmall, ins-back, ins-zeros}
+use Rattle.laws.specs.SectionWord.{NextSmall, flag-back, next-back, fields-back, zeros-back}
 use Rattle.rules.specs.Word.{unpack, insWord, wordIns, insSpare, Run, runWord, wordRun, runSpare, Span, spanWord, wordSpan, spanSpare}
 use Rattle.rules.specs.Constants.{stringLayout, mark}
 use Rattle.rules.specs.Machine.{SectionOrLine, unfixed, section, line, SectionCode, isFixed, Machine}
-use Rattle.rules.specs.Tables.{Tables, Counts, allb, fieldFits, insFits, successOf, successFits, startFits, runsFit, spanFits, nameFits, countFits, countsFit, wordsFit, fits, flag, kind_of, target_of, run_of, runWords, allCode, encode, countsOf}
+use Rattle.rules.specs.Tables.{Tables, Counts, allb, fieldFits, insFits, successOf, successFits, startFits, runsFit, spanFits, nameFits, countFits, countsFit, wordsFit, fits, flag, kind_of, target_of, sectionRun, runWords, allCode, encode, countsOf}
 use Rattle.rules.specs.Demand.{All, FieldBelow, FieldsBelow, RegistersBelow}
 use Rattle.bounds.specs.Estimate.{codeLen, code-length}
 
@@ -69,11 +71,6 @@ field-small u c str n h = omega (arith, h.0, c.strings)
 field-small u c val n h = omega (arith, h.0, c.values)
 field-small u c place n h = omega (arith, h.1 refl, c.sections)
 
-at_lt : {A : Type 0} (l : List A) (o : ℕ) (k : A) → get_elem? l o ≡ some k → o < length l
-at_lt [] o k e = absurd (let z : ◌≡◌ {A = ℕ} 0 1 = cc in omega arith)
-at_lt (x ∷ l) zero k e = omega arith
-at_lt (x ∷ l) (suc o) k e = omega (arith, at_lt l o k e)
-
 -- An opcode's kinds stand in its row.
 pub row_of : (o : ℕ) (k : Kind × Kind × Kind) → kinds o ≡ some k → (r : Row) × (get_elem? table o ≡ some r) × (r.kinds ≡ k)
 unfolding kinds table
@@ -83,22 +80,18 @@ row_of o k e = go (get_elem? table o) refl e
     go none p q = absurd (let z : ◌≡◌ {A = ℕ} 0 1 = cc in omega arith)
     go (some r) p q = (r, p, cc)
 
-pub op-small : (o : ℕ) (k : Kind × Kind × Kind) → kinds o ≡ some k → o < 53
-unfolding table
-op-small o k e = let r = row_of o k e in at_lt table o r.0 r.1
-
--- An instruction reads back.
-pub ins-back : (i : Instruction) → i.op < 64 → i.fst < 65536 → i.snd < 65536 → i.thd < 65536 → wordIns (insWord i) ≡ i
-ins-back i o a b c = Words.ins-back i (o, (a, (b, (c, tt))))
-
-low-zero : (i : Instruction) → insSpare (insWord i) ≡ 0
-unfolding insWord insSpare
-low-zero i = omega arith
-
 -- What an instruction's three fields hold.
 abbrev pub Held : Counts → Option (Kind × Kind × Kind) → Instruction → Type 0
 Held u none i = ⊥
 Held u (some k) i = Holds u k.0 i.fst × Holds u k.1 i.snd × Holds u k.2 i.thd
+
+-- So it fits its word.
+pub ins-small : (u : Counts) → Counted u → (i : Instruction) → Held u (kinds i.op) i → InsSmall i
+ins-small u c i h = go (kinds i.op) refl h
+  where
+    go : (k : Option (Kind × Kind × Kind)) → kinds i.op ≡ k → Held u k i → InsSmall i
+    go none e q = absurd q
+    go (some k) e q = (opcode-bits i.op k e, (field-small u c k.0 i.fst q.0, (field-small u c k.1 i.snd q.1, (field-small u c k.2 i.thd q.2, tt))))
 
 pub ins-fits : (u : Counts) → Counted u → (i : Instruction) → Held u (kinds i.op) i → insFits u (insWord i) ≡ true
 unfolding insFits
@@ -107,20 +100,12 @@ ins-fits u c i h = go (kinds i.op) refl h
     go : (k : Option (Kind × Kind × Kind)) → kinds i.op ≡ k → Held u k i → insFits u (insWord i) ≡ true
     go none e q = absurd q
     go (some k) e q =
-        let back = ins-back i (omega (arith, op-small i.op k e)) (field-small u c k.0 i.fst q.0) (field-small u c k.1 i.snd q.1) (field-small u c k.2 i.thd q.2) in
         let z = eqb (insSpare (insWord i)) 0 in
-        ap (λ (j : Instruction). elim (kinds j.op) [ none ↦ false | some l ↦ z && fieldFits u l.0 j.fst && fieldFits u l.1 j.snd && fieldFits u l.2 j.thd ]) back
+        ap (λ (j : Instruction). elim (kinds j.op) [ none ↦ false | some l ↦ z && fieldFits u l.0 j.fst && fieldFits u l.1 j.snd && fieldFits u l.2 j.thd ]) (ins-back i (ins-small u c i h))
         ∙ (ap (λ (x : Option (Kind × Kind × Kind)). elim x [ none ↦ false | some l ↦ z && fieldFits u l.0 i.fst && fieldFits u l.1 i.snd && fieldFits u l.2 i.thd ]) e
-        ∙ both_true (z && fieldFits u k.0 i.fst && fieldFits u k.1 i.snd) (fieldFits u k.2 i.thd) (both_true (z && fieldFits u k.0 i.fst) (fieldFits u k.1 i.snd) (both_true z (fieldFits u k.0 i.fst) (eq-eqb (insSpare (insWord i)) 0 (low-zero i)) (field_fits u k.0 i.fst q.0)) (field_fits u k.1 i.snd q.1)) (field_fits u k.2 i.thd q.2))
+        ∙ both_true (z && fieldFits u k.0 i.fst && fieldFits u k.1 i.snd) (fieldFits u k.2 i.thd) (both_true (z && fieldFits u k.0 i.fst) (fieldFits u k.1 i.snd) (both_true z (fieldFits u k.0 i.fst) (eq-eqb (insSpare (insWord i)) 0 (ins-zeros i (ins-small u c i h))) (field_fits u k.0 i.fst q.0)) (field_fits u k.1 i.snd q.1)) (field_fits u k.2 i.thd q.2))
 
 -- ---- sections
-
-run-back : (r : Run) → r.lineStart ≤ 1 → r.kind ≤ 1 → r.target ≤ 65535 → r.first ≤ 65535 → r.count ≤ 65535 → wordRun (runWord r) ≡ r
-run-back r a b c d e = Words.run-back r (omega arith, (omega arith, (omega arith, (omega arith, (omega arith, tt)))))
-
-run-zero : (r : Run) → runSpare (runWord r) ≡ 0
-unfolding runWord runSpare
-run-zero r = omega arith
 
 -- A successor that is there.
 abbrev pub NextFit : Counts → SectionOrLine → Type 0
@@ -142,11 +127,11 @@ abbrev pub AllAt : (ℕ → SectionCode → Type 0) → ℕ → List SectionCode
 AllAt P i [] = Unit {0}
 AllAt P i (s ∷ ss) = P i s × AllAt P (suc i) ss
 
-pub next-back : (u : Counts) → Counted u → (x : SectionOrLine) → NextFit u x → (a k n : ℕ) → successOf (record { lineStart = a; kind = kind_of x; target = target_of x; first = k; count = n }) ≡ x
-unfolding successOf kind_of target_of isOne
-next-back u c unfixed h a k n = refl
-next-back u c (section t) h a k n = ap (λ (b : Bool). elim b as (λ z. SectionOrLine) [ true ↦ unfixed | false ↦ section t ]) (ne_eqb t 65535 (λ e. omega (arith, c.sections)))
-next-back u c (line r) h a k n = refl
+-- So it fits its word.
+pub next-small : (u : Counts) → Counted u → (x : SectionOrLine) → NextFit u x → NextSmall x
+next-small u c unfixed h = tt
+next-small u c (section t) h = omega (arith, c.sections)
+next-small u c (line r) h = omega (arith, c.numbers)
 
 next_fits : (u : Counts) (x : SectionOrLine) → NextFit u x → successFits u x ≡ true
 unfolding successFits
@@ -154,48 +139,22 @@ next_fits u unfixed h = refl
 next_fits u (section t) h = lt-ltb t u.sections h
 next_fits u (line r) h = lt-ltb r u.numbers h
 
-kind-small : (x : SectionOrLine) → kind_of x ≤ 1
-unfolding kind_of
-kind-small unfixed = omega arith
-kind-small (section t) = omega arith
-kind-small (line r) = omega arith
-
-target_small : (u : Counts) → Counted u → (x : SectionOrLine) → NextFit u x → target_of x ≤ 65535
-unfolding target_of
-target_small u c unfixed h = omega arith
-target_small u c (section t) h = omega (arith, c.sections)
-target_small u c (line r) h = omega (arith, c.numbers)
-
-flag_small : (b : Bool) → flag b ≤ 1
-unfolding flag
-flag_small true = omega arith
-flag_small false = omega arith
-
-pub flag_one : (b : Bool) → isOne (flag b) ≡ b
-unfolding flag isOne
-flag_one true = refl
-flag_one false = refl
-
-start_fits : (u : Counts) → Counted u → (i : ℕ) (s : SectionCode) (k : ℕ) → SectFit u i s → startFits u i (run_of s k) ≡ true
-unfolding startFits run_of
+start_fits : (u : Counts) → Counted u → (i : ℕ) (s : SectionCode) (k : ℕ) → SectFit u i s → startFits u i (sectionRun s k) ≡ true
+unfolding startFits
 start_fits u c i s k f = go (ltb i u.lines) refl
   where
     go : (b : Bool) → ltb i u.lines ≡ b
-        → ◌≡◌ {A = Bool} (elim b [ true ↦ isOne (flag s.lineStart) | false ↦ not (isOne (flag s.lineStart)) || not (isFixed (successOf (run_of s k))) && eqb (length s.instrs) 0 ]) true
-    go true e = flag_one s.lineStart ∙ f.lineStart (ltb-true i u.lines e)
+        → ◌≡◌ {A = Bool} (elim b [ true ↦ isOne (flag s.lineStart) | false ↦ not (isOne (flag s.lineStart)) || not (isFixed (successOf (sectionRun s k))) && eqb (length s.instrs) 0 ]) true
+    go true e = flag-back s.lineStart ∙ f.lineStart (ltb-true i u.lines e)
     go false e =
-        ap₂ (λ (a : Bool) (x : SectionOrLine). not a || not (isFixed x) && eqb (length s.instrs) 0) (flag_one s.lineStart) (next-back u c s.success f.success (flag s.lineStart) k (length s.instrs))
+        ap₂ (λ (a : Bool) (x : SectionOrLine). not a || not (isFixed x) && eqb (length s.instrs) 0) (flag-back s.lineStart) (next-back s.success (flag s.lineStart) k (length s.instrs) (next-small u c s.success f.success))
         ∙ f.later (ltb-false i u.lines e)
-
-pub section-back : (u : Counts) → Counted u → (i : ℕ) (s : SectionCode) (k : ℕ) → SectFit u i s → k ≤ 65535 → length s.instrs ≤ 65535 → wordRun (runWord (run_of s k)) ≡ run_of s k
-unfolding run_of
-section-back u c i s k f p q = run-back (run_of s k) (flag_small s.lineStart) (kind-small s.success) (target_small u c s.success f.success) p q
 
 runs_fit : (u : Counts) → Counted u → (i k : ℕ) (ss : List SectionCode) → AllAt (SectFit u) i ss → k + codeLen ss ≡ u.instrs → runsFit u i k (runWords k ss) ≡ true
 unfolding runsFit runWords
 runs_fit u c i k [] h e = eq-eqb k u.instrs (omega arith)
 runs_fit u c i k (s ∷ ss) h e =
-    let r = run_of s k in
+    let r = sectionRun s k in
     let f = h.0 in
     let back : wordRun (runWord r) ≡ r = back-of in
     let z = eqb (runSpare (runWord r)) 0 in
@@ -207,17 +166,17 @@ runs_fit u c i k (s ∷ ss) h e =
     tested
     ∙ runs_fit u c (suc i) (k + length s.instrs) ss h.1 (omega arith))
   where
-    back-of : wordRun (runWord (run_of s k)) ≡ run_of s k
-    back-of = section-back u c i s k h.0 (omega (arith, c.instrs)) (omega (arith, c.instrs))
+    back-of : wordRun (runWord (sectionRun s k)) ≡ sectionRun s k
+    back-of = fields-back s.lineStart s.success k (length s.instrs) (next-small u c s.success h.0.success) (omega (arith, c.instrs)) (omega (arith, c.instrs))
 
-    tested : (eqb (runSpare (runWord (run_of s k))) 0 && eqb (run_of s k).first k && successFits u (successOf (run_of s k)) && startFits u i (run_of s k)) ≡ true
+    tested : (eqb (runSpare (runWord (sectionRun s k))) 0 && eqb (sectionRun s k).first k && successFits u (successOf (sectionRun s k)) && startFits u i (sectionRun s k)) ≡ true
     tested =
-        let r = run_of s k in
+        let r = sectionRun s k in
         let z = eqb (runSpare (runWord r)) 0 in
         both_true
         (z && eqb r.first k && successFits u (successOf r))
         (startFits u i r)
-        (both_true (z && eqb r.first k) (successFits u (successOf r)) (both_true z (eqb r.first k) (eq-eqb (runSpare (runWord r)) 0 (run-zero r)) (eq-eqb k k refl)) (ap (successFits u) (next-back u c s.success h.0.success (flag s.lineStart) k (length s.instrs)) ∙ next_fits u s.success h.0.success))
+        (both_true (z && eqb r.first k) (successFits u (successOf r)) (both_true z (eqb r.first k) (eq-eqb (runSpare (runWord r)) 0 (zeros-back s.lineStart s.success k (length s.instrs) (next-small u c s.success h.0.success) (omega (arith, c.instrs)) (omega (arith, c.instrs)))) (eq-eqb k k refl)) (ap (successFits u) (next-back s.success (flag s.lineStart) k (length s.instrs) (next-small u c s.success h.0.success)) ∙ next_fits u s.success h.0.success))
         (start_fits u c i s k h.0)
 
 -- ---- strings, counts, all

@@ -159,7 +159,7 @@ laid o x {L} {n} {head'} {number} {c} {c'} {is} {is'} {ns} {ns'} {ss} {ss'} {ps}
     let lc = length-map insWord (allCode (sectionsOf script)) in
     let lr = runs-length 0 (sectionsOf script) in
     let lp = length-map spanWord (spans 0 g.strings) in
-    let ls = length-spans o x 0 g.strings in
+    let ls = length-spans 0 g.strings in
     let vl : length g.names ≡ n = r.named ∙ en in
     let nm = hp g.names vl (r.name-words ∙ ap (λ (k : ℕ). map regWord g.names ++ drop k ms) en) in
     let nl : length (nameWords o x.names g.names) ≡ n = names-length o x.names g.names r.named ∙ en in

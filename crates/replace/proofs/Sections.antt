@@ -12,7 +12,7 @@ use Rattle.rules.specs.Bits.{isOne}
 use Rattle.rules.specs.Instr.{Instruction}
 use Rattle.rules.specs.Word.{wordRun, runWord, wordIns, insWord, spanWord, wordSpan}
 use Rattle.rules.specs.Machine.{SectionOrLine, SectionCode}
-use Rattle.rules.specs.Tables.{successOf, readSections, run_of, runWords, allCode}
+use Rattle.rules.specs.Tables.{successOf, readSections, sectionRun, runWords, allCode, runOf}
 use Rattle.rules.specs.Replace.{Regs, replaceCode, with_code, replaceSections}
 use Rattle.words.specs.Runs as W
 use Rattle.tables.specs.Runs.{count_of, total, sectionOf, held}
@@ -171,7 +171,7 @@ module _ (ss is : List ℕ) (ns : List ℤ) (ts : List ℕ) (n e k₀ s₀ p : �
       abbrev others : Regs → List SectionCode × Regs
       others q = replaceSections p q (readSections (slice (j + 1) n ss) (slice (a + c) e is))
 
-      words-now : take j ss' ++ (runWord (run_of (with_code here ran.0) b) ∷ runWords (b + length ran.0) (others ran.1).0) ≡ runWords 0 (whole_of ss is ns ts n e k₀ s₀ p).0
+      words-now : take j ss' ++ (runWord (sectionRun (with_code here ran.0) b) ∷ runWords (b + length ran.0) (others ran.1).0) ≡ runWords 0 (whole_of ss is ns ts n e k₀ s₀ p).0
       words-now = rw (sections-are, words-cons) at r.sections
 
       code-now : take b is' ++ (map insWord ran.0 ++ map insWord (allCode (others ran.1).0)) ≡ map insWord (allCode (whole_of ss is ns ts n e k₀ s₀ p).0)
@@ -181,11 +181,11 @@ module _ (ss is : List ℕ) (ns : List ℤ) (ts : List ℕ) (n e k₀ s₀ p : �
       regs-now = rw sections-are at r.regs
 
       module _ (is'' : List ℕ) (ns'' : List ℤ) (ts'' : List ℕ) (b'' k'' s'' : ℕ) (d : Ran is' ns' ts' is'' ns'' ts'' p b k s b'' k'' s'' a (a + c)) (il : length is'' ≡ length is') (nl : length ns'' ≡ length ns') (tl : length ts'' ≡ length ts')
-          (l : Bool) (q : SectionOrLine) (m v : ℕ) (v-is : v ≡ runWord (W.run_of l q b m)) (l-is : l ≡ isOne (wordRun (get_or ss' j 0)).lineStart) (q-is : q ≡ successOf (wordRun (get_or ss' j 0))) (m-is : m ≡ b'' - b) where
+          (l : Bool) (q : SectionOrLine) (m v : ℕ) (v-is : v ≡ runWord (runOf l q b m)) (l-is : l ≡ isOne (wordRun (get_or ss' j 0)).lineStart) (q-is : q ≡ successOf (wordRun (get_or ss' j 0))) (m-is : m ≡ b'' - b) where
         m-count : m ≡ length ran.0
         m-count = let x = d.count in omega arith
 
-        v-word : v ≡ runWord (run_of (with_code here ran.0) b)
+        v-word : v ≡ runWord (sectionRun (with_code here ran.0) b)
         v-word = v-is ∙ word-is b (with_code here ran.0) l q m l-is q-is m-count
 
         j-len : n ≤ length ss'
@@ -214,7 +214,7 @@ module _ (ss is : List ℕ) (ns : List ℤ) (ts : List ℕ) (n e k₀ s₀ p : �
             record {
               sections =
                   rw (set-taken ss' j (j + 1) v j-next j-fits, v-word, d.regs, d.count)
-                  (append_snoc (take j ss') (runWord (run_of (with_code here ran.0) b)) (runWords (b + length ran.0) (others ran.1).0) ∙ words-now);
+                  (append_snoc (take j ss') (runWord (sectionRun (with_code here ran.0) b)) (runWords (b + length ran.0) (others ran.1).0) ∙ words-now);
               code = rw (d.code, d.regs) (append_assoc (take b is') (map insWord ran.0) (map insWord (allCode (others ran.1).0)) ∙ code-now);
               regs = rw d.regs regs-now;
               section-rest = drop-set-lt (j + 1) ss' j v j-next ∙ drop-later j (j + 1) ss' ss r.section-rest u;

@@ -155,16 +155,19 @@ target_of (section t) = t
 target_of (line n) = n
 target_of unfixed = mark
 
--- the fields of a section's word, whose first instruction is number k
-unfoldable pub run_of : SectionCode → ℕ → Run
-unfolding flag kind_of target_of
-run_of s k = record { lineStart = flag s.lineStart; kind = kind_of s.success; target = target_of s.success; first = k; count = length s.instrs }
+-- the fields of a section's word: whether it starts a line, its successor, and count instructions from number first on
+abbrev pub runOf : Bool → SectionOrLine → ℕ → ℕ → Run
+runOf starts success first count = record { lineStart = flag starts; kind = kind_of success; target = target_of success; first = first; count = count }
+
+-- of a section whose first instruction is number k
+abbrev pub sectionRun : SectionCode → ℕ → Run
+sectionRun s k = runOf s.lineStart s.success k (length s.instrs)
 
 -- sections' words, the first of which begins at instruction k
 unfoldable pub runWords : ℕ → List SectionCode → List ℕ
-unfolding run_of runWord
+unfolding flag kind_of target_of runWord
 runWords k [] = []
-runWords k (s ∷ ss) = runWord (run_of s k) ∷ runWords (k + length s.instrs) ss
+runWords k (s ∷ ss) = runWord (sectionRun s k) ∷ runWords (k + length s.instrs) ss
 
 -- the instructions of all sections, in order
 unfoldable pub allCode : List SectionCode → List Instruction

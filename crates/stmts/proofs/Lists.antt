@@ -10,7 +10,7 @@ use lib.ListN.{length, set, length-append}
 use Rattle.rules.specs.Word.{insWord, runWord}
 use Rattle.rules.specs.Tree.{Block, end, ite, assign}
 use Rattle.rules.specs.Machine.{SectionOrLine, section, SectionCode}
-use Rattle.rules.specs.Tables.{run_of, runWords, allCode}
+use Rattle.rules.specs.Tables.{sectionRun, runWords, allCode, runOf}
 use Rattle.rules.specs.Script.{Stmts, nil, plain, isNil}
 use Rattle.rules.specs.Assemble.{orOne, sectionsMade, entry, link, inner, orEmpty, stmtSections, ownCode, cond_code}
 use Rattle.rules.specs.CodegenData.{CodegenData, scoped}
@@ -181,8 +181,8 @@ lists-more x {l} {n} {n'} {h} {k} {l'} s p q r a z =
 -- ---- an Ite
 
 -- a section without instructions
-pub stored-empty : {l : Bool} {s : SectionOrLine} {n k : ℕ} {is se se' : List ℕ} {w : ℕ} → se' ≡ set se n w → w ≡ runWord (Runs.run_of l s k (k - k)) → Stored (record { lineStart = l; instrs = []; success = s }) n k k is is se se'
-unfolding run_of
+pub stored-empty : {l : Bool} {s : SectionOrLine} {n k : ℕ} {is se se' : List ℕ} {w : ℕ} → se' ≡ set se n w → w ≡ runWord (runOf l s k (k - k)) → Stored (record { lineStart = l; instrs = []; success = s }) n k k is is se se'
+unfolding sectionRun
 stored-empty {n = n} {k = k} {se = se} p q =
     let z : k - k ≡ 0 = omega arith in
     record { code = refl; ends = sym (add-zero k); word = p ∙ ap (λ (v : ℕ). set se n v) (rw z at q) }

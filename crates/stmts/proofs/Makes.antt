@@ -11,7 +11,7 @@ use lib.Seq.{sets}
 use Rattle.rules.specs.Instr.{Instruction}
 use Rattle.rules.specs.Word.{insWord, runWord}
 use Rattle.rules.specs.Machine.{SectionOrLine}
-use Rattle.rules.specs.Tables.{run_of}
+use Rattle.rules.specs.Tables.{sectionRun, runOf}
 use Rattle.rules.specs.Assemble.{ownCode}
 use Rattle.rules.specs.CodegenData.{CodegenData, Lower}
 use Rattle.words.specs.Runs as Runs
@@ -84,8 +84,8 @@ own-length : (e : ℕ) (o d : List Instruction) → length (ownCode e o ++ d) �
 own-length e o d = rw (length-append, length-map)
 
 -- what is counted is what is there
-counted : (l : Bool) (s : SectionOrLine) (c : List Instruction) (k k' : ℕ) → k' ≡ k + length c → Runs.run_of l s k (k' - k) ≡ run_of (record { lineStart = l; instrs = c; success = s }) k
-unfolding run_of
+counted : (l : Bool) (s : SectionOrLine) (c : List Instruction) (k k' : ℕ) → k' ≡ k + length c → runOf l s k (k' - k) ≡ sectionRun (record { lineStart = l; instrs = c; success = s }) k
+unfolding sectionRun
 counted l s c k k' e = let z : k' - k ≡ length c = omega arith in rw z
 
 -- ---- the law: a step that was lowered, the instructions behind, and the word
@@ -94,7 +94,7 @@ pub makes : {n : ℕ} {m : Lower ℕ} {l : Bool} {c c1 c' : Counters} {t t1 t' :
     → Does n m c t t1 r c1
     → t'.instrs ≡ sets t1.instrs c1.at (map insWord (d r)) → c'.at ≡ c1.at + length (d r)
     → ((e : ℕ) (b : Lent) (g : CodegenData) → Regs n e b c1 t1 g → Regs n e b c' t' g)
-    → se' ≡ set se slot w → w ≡ runWord (Runs.run_of l (f r) c.at (c'.at - c.at))
+    → se' ≡ set se slot w → w ≡ runWord (runOf l (f r) c.at (c'.at - c.at))
     → Makes n m l d f slot c t t' se se' c'
 makes {n} {m} {l} {c} {c1} {c'} {t} {t1} {t'} {r} d f slot se {w} {se'} x code at same put word =
     record {
@@ -116,7 +116,7 @@ makes {n} {m} {l} {c} {c1} {c'} {t} {t1} {t'} {r} d f slot se {w} {se'} x code a
 
 -- with nothing behind
 pub makes-plain : {n : ℕ} {m : Lower ℕ} {l : Bool} {c c1 : Counters} {t t1 : Lent} {r : ℕ} (f : ℕ → SectionOrLine) (slot : ℕ) (se : List ℕ) {w : ℕ} {se' : List ℕ}
-    → Does n m c t t1 r c1 → se' ≡ set se slot w → w ≡ runWord (Runs.run_of l (f r) c.at (c1.at - c.at)) → Makes n m l nothing f slot c t t1 se se' c1
+    → Does n m c t t1 r c1 → se' ≡ set se slot w → w ≡ runWord (runOf l (f r) c.at (c1.at - c.at)) → Makes n m l nothing f slot c t t1 se se' c1
 makes-plain {c1 = c1} f slot se x put word = makes nothing f slot se x refl (sym (add-zero c1.at)) (λ e b g q. q) put word
 
 -- registers do not see the cursor or the instructions; errors go to the line that the counters say
@@ -140,7 +140,7 @@ regs-moved k s q r =
 -- with a jump behind
 pub makes-jump : {n : ℕ} {m : Lower ℕ} {l : Bool} {c c1 c' : Counters} {t : Lent} {is1 is' : List ℕ} {ns : List ℤ} {ss ps ms : List ℕ} {r : ℕ} (d : ℕ → List Instruction) (f : ℕ → SectionOrLine) (slot : ℕ) (se : List ℕ) {w : ℕ} {se' : List ℕ}
     → Does n m c t (lent is1 ns ss ps ms) r c1 → is' ≡ sets is1 c1.at (map insWord (d r)) → c' ≡ placed c1 (c1.at + length (d r))
-    → se' ≡ set se slot w → w ≡ runWord (Runs.run_of l (f r) c.at (c'.at - c.at)) → Makes n m l d f slot c t (lent is' ns ss ps ms) se se' c'
+    → se' ≡ set se slot w → w ≡ runWord (runOf l (f r) c.at (c'.at - c.at)) → Makes n m l d f slot c t (lent is' ns ss ps ms) se se' c'
 makes-jump {c1 = c1} {r = r} d f slot se x code at put word =
     makes d f slot se x code (ap (λ (k : Counters). k.at) at) (λ e b g q. rw at (regs-moved _ c1.err q.err q)) put word
 

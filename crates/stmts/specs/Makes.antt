@@ -5,7 +5,7 @@ use Rattle.std.proofs.lemmas.List.Edits.{sets}
 use Rattle.rules.specs.Word.{insWord, spanWord, runWord}
 use Rattle.rules.specs.Instr.{Instruction}
 use Rattle.rules.specs.Machine.{SectionOrLine, SectionCode}
-use Rattle.rules.specs.Tables.{run_of}
+use Rattle.rules.specs.Tables.{sectionRun}
 use Rattle.rules.specs.Assemble.{ownCode, condJump}
 use Rattle.rules.specs.CodegenData.{CodegenData, Lower, scoped}
 use Rattle.rules.specs.Lowered.{spans, texts}
@@ -38,7 +38,7 @@ nothing r = []
 pub record Stored (s : SectionCode) (slot at at' : ℕ) (is is' se se' : List ℕ) : Type 0 where
   pub code : is' ≡ sets is at (map insWord s.instrs)
   pub ends : at' ≡ at + length s.instrs
-  pub word : se' ≡ set se slot (runWord (run_of s at))
+  pub word : se' ≡ set se slot (runWord (sectionRun s at))
 
 -- what m emits became a section
 pub record Became (n e : ℕ) (l : Bool) (d : ℕ → List Instruction) (f : ℕ → SectionOrLine) (slot : ℕ) (b : Lent) (c : Counters) (t t' : Lent) (se se' : List ℕ) (c' : Counters) (p : (List Instruction × ℕ) × CodegenData) : Type 0 where

@@ -5,6 +5,7 @@
 // instructions below 65,536.
 ghost use Rattle.std.specs.Prelude.{◌≡◌, List, map, ℤ, ℕ, ◌+◌, ◌*◌, ◌-◌, ◌≤◌, ◌<◌, length, get_or, set};
 ghost use Rattle.std.proofs.lemmas.List.Edits.{sets};
+ghost use Rattle.rules.specs.Tables.{runOf};
 ghost use Rattle.rules.specs.Tree as Tree;
 ghost use Rattle.rules.specs.Tree.{Block, ofExpr};
 ghost use Rattle.codegen.specs.Costs.{Spent};
@@ -58,7 +59,7 @@ pub fn put_section(
     end: usize,
 )
     requires { (slot.0 < length sections.old) × (first ≤ end) × (end < 65536) }
-    ensures { sections.new ≡ set sections.old slot.0 (runWord (Runs.run_of start (Runs.successTold success) first (end - first))) }
+    ensures { sections.new ≡ set sections.old slot.0 (runWord (runOf start (Runs.successTold success) first (end - first))) }
 {
     let i = index(slot.0);
     let w = SectionWord::pack(start, success, first as u16, (end - first) as u16);

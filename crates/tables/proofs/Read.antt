@@ -9,7 +9,7 @@ use lib.ListN.{length, take, drop}
 use borrow.Author.Tests.{eqb-true}
 use Rattle.rules.specs.Word.{wordRun, runWord}
 use Rattle.rules.specs.Machine.{SectionOrLine, SectionCode}
-use Rattle.rules.specs.Tables.{Tables, Counts, allb, runsFit, readSections, run_of, runWords, allCode}
+use Rattle.rules.specs.Tables.{Tables, Counts, allb, runsFit, readSections, sectionRun, runWords, allCode, runOf}
 use Rattle.words.specs.Runs as Runs
 use Rattle.tables.specs.Rules.{sectionFits}
 use Rattle.tables.specs.Runs.{count_of, total, sectionOf}
@@ -32,7 +32,7 @@ pub words-nil : (k : ℕ) → runWords k [] ≡ []
 unfolding runWords
 words-nil k = refl
 
-pub words-cons : (k : ℕ) (s : SectionCode) (ss : List SectionCode) → runWords k (s ∷ ss) ≡ runWord (run_of s k) ∷ runWords (k + length s.instrs) ss
+pub words-cons : (k : ℕ) (s : SectionCode) (ss : List SectionCode) → runWords k (s ∷ ss) ≡ runWord (sectionRun s k) ∷ runWords (k + length s.instrs) ss
 unfolding runWords
 words-cons k s ss = refl
 
@@ -42,8 +42,8 @@ words-length k [] = refl
 words-length k (s ∷ ss) = ap suc (words-length (k + length s.instrs) ss)
 
 -- a section's word by its parts
-pub word-is : (k : ℕ) (s : SectionCode) (l : Bool) (o : SectionOrLine) (c : ℕ) → l ≡ s.lineStart → o ≡ s.success → c ≡ length s.instrs → runWord (Runs.run_of l o k c) ≡ runWord (run_of s k)
-unfolding run_of
+pub word-is : (k : ℕ) (s : SectionCode) (l : Bool) (o : SectionOrLine) (c : ℕ) → l ≡ s.lineStart → o ≡ s.success → c ≡ length s.instrs → runWord (runOf l o k c) ≡ runWord (sectionRun s k)
+unfolding sectionRun
 word-is k s l o c p q r = rw (p, q, r)
 
 pub count-is : (w : ℕ) → (wordRun w).count ≡ count_of w

@@ -1,8 +1,8 @@
 -- Section and string words: what their structs say in the words of `rules`.
-use Rattle.std.specs.Prelude.{Bool, ℕ}
+use Rattle.std.specs.Prelude.{ℕ}
 use Rattle.rules.specs.Word.{Run, Span}
 use Rattle.rules.specs.Machine.{SectionOrLine, unfixed, section, line}
-use Rattle.rules.specs.Tables.{flag, kind_of, target_of}
+use Rattle.rules.specs.Tables.{kind_of, target_of}
 use Rattle.words.specs.declared.section.SectionOrLine.{SectionOrLine as Success}
 use Rattle.words.specs.declared.section.SectionOrLine.TheVariants.{Unfixed, Section, Line}
 
@@ -13,10 +13,6 @@ successTold (Line n) = line n.0
 
 abbrev pub run : ℕ → ℕ → ℕ → ℕ → ℕ → Run
 run l k t f c = record { lineStart = l; kind = k; target = t; first = f; count = c }
-
--- the fields of a section that is a line start or not, has a successor, and c instructions from number f on
-abbrev pub run_of : Bool → SectionOrLine → ℕ → ℕ → Run
-run_of l s f c = run (flag l) (kind_of s) (target_of s) f c
 
 abbrev pub withSuccess : SectionOrLine → Run → Run
 withSuccess s r = run r.lineStart (kind_of s) (target_of s) r.first r.count

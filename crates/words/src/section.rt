@@ -2,6 +2,7 @@
 //
 // Each function is shown equal to `runWord`, `wordRun` and `successOf` of `rules`, for every u64, and asks nothing.
 ghost use Rattle.std.specs.Prelude.{◌≡◌, ◌<◌};
+ghost use Rattle.rules.specs.Tables.{runOf};
 ghost use Rattle.rules.specs.Bits.{isOne};
 ghost use Rattle.rules.specs.Word.{runWord, wordRun, runSpare};
 ghost use Rattle.rules.specs.Tables as Tables;
@@ -77,7 +78,7 @@ impl SectionWord {
 
     #[tactic(auto, using(crate::proofs::Sections::one_bit))]
     pub fn pack(start: bool, success: SectionOrLine, first: u16, count: u16) -> SectionWord
-        ensures { result.0 ≡ runWord (Runs.run_of start (Runs.successTold success) first count) }
+        ensures { result.0 ≡ runWord (runOf start (Runs.successTold success) first count) }
     {
         Self::word(flag(start), success.kind(), success.target(), first, count)
     }
