@@ -13,7 +13,7 @@ use Rattle.rules.specs.Tables.{successOf, kind_of, target_of}
 use Rattle.rules.specs.Clean.{renNext}
 use Rattle.laws.specs.Words.{run-back, run_small}
 use Rattle.words.specs.Runs as Runs
-use Rattle.laws.specs.Success.{kind-lt}
+use Rattle.laws.specs.SectionWord.{kind-lt}
 use Rattle.tables.specs.Runs.{fixed_word, count_of}
 use Rattle.clean.specs.Pass.{first_of, withFirst, withTarget}
 

@@ -15,11 +15,13 @@ use Rattle.rules.specs.Tables.{successOf}
 use Rattle.rules.specs.Combine.{refs, mayTake, mate}
 use Rattle.tables.specs.Runs.{total, held}
 use Rattle.join.specs.Held.{Sound}
-use Rattle.join.specs.Joins.{enough, enough-code}
-use Rattle.join.specs.Reads.{holds-tell}
-use Rattle.join.specs.Tells.{tell-total}
-use Rattle.combine.specs.Counting.{next_of, refsNexts, refsJumps, refs-are}
-use Rattle.combine.specs.Tests.{start_at, nextIn, wordAhead, start-at, success-at}
+use Rattle.join.proofs.Joins.{enough, enough-code}
+use Rattle.join.proofs.Back.{holds-tell}
+use Rattle.join.proofs.Tells.{tell-total}
+use Rattle.combine.specs.Counting.{next_of, refsNexts, refsJumps}
+use Rattle.combine.proofs.Counted.{refs-are}
+use Rattle.combine.specs.Tests.{start_at, nextIn, wordAhead}
+use Rattle.combine.proofs.Tests.{start-at, success-at}
 
 module _ (s i : List ℕ) (n e : ℕ) (h : Sound s i n e) where
   pub long : n ≤ length s

@@ -18,8 +18,9 @@ use Rattle.rules.specs.Combine.{combineSections, combined}
 use Rattle.tables.specs.Runs.{fixed_word, held}
 use Rattle.tables.proofs.Sound.{Sound as Keeps, sound}
 use Rattle.tables.proofs.Change.{machine_of, change-12, change-no, change-ok, counts_of, written, put_back, strings-back}
-use Rattle.combine.specs.Tests.{wordsAhead, fixed-are, ahead-from}
-use Rattle.combine.specs.Loop.{Combined}
+use Rattle.combine.specs.Tests.{wordsAhead}
+use Rattle.combine.proofs.Tests.{fixed-are, ahead-from}
+use Rattle.combine.specs.Combined.{Combined}
 
 -- as many words as there were
 put_all : (n : ℕ) (ws t : List ℕ) → n ≡ length ws → ws ++ drop n t ≡ put 0 n ws t

@@ -19,7 +19,7 @@ ghost use Rattle.rules.specs.Operations as Operations;
 ghost use Rattle.tables.specs.Lent.{countsTold, tables, answerTold};
 ghost use Rattle.tables.specs.Runs.{held};
 ghost use Rattle.join.specs.Held.{Sound};
-ghost use Rattle.combine.specs.Loop.{Combined};
+ghost use Rattle.combine.specs.Combined.{Combined};
 
 use crate::refusals::all_ahead;
 use crate::search::mate;

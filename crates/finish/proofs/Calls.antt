@@ -24,7 +24,7 @@ use Rattle.tables.specs.declared.answer.Answer.TheVariants.{Done, Refused}
 use Rattle.tables.specs.Lent.{countsTold, answerTold}
 use Rattle.tables.specs.Runs.{held}
 use Rattle.tables.proofs.Read.{words-length}
-use Rattle.combine.specs.Loop.{put-twice}
+use Rattle.combine.proofs.Loop.{put-twice}
 use Rattle.finish.specs.Passes.{Lowered, finishSections, Finished}
 use Rattle.machines.specs.Back.{put-begins}
 use Rattle.finish.proofs.Lowered.{held-is}

@@ -24,9 +24,9 @@ use Rattle.tables.proofs.Sound.{sound}
 use Rattle.tables.proofs.Read.{words-length, whole-total}
 use Rattle.clean.specs.Pass.{Cleaned}
 use Rattle.join.specs.Held.{Sound}
-use Rattle.join.specs.Reads.{holds-held}
-use Rattle.combine.specs.Loop.{Combined}
-use Rattle.combine.specs.Ready.{Ready, fit-holds, ready, written_over}
+use Rattle.join.proofs.Back.{holds-held}
+use Rattle.combine.specs.Combined.{Combined}
+use Rattle.combine.proofs.Ready.{Ready, fit-holds, ready, written_over}
 use Rattle.finish.specs.Passes.{Lowered, finishSections, Finished}
 
 -- ---- the runs of a machine's words cover its instructions

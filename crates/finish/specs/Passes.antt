@@ -10,7 +10,7 @@ use Rattle.rules.specs.Clean.{cleanSections}
 use Rattle.rules.specs.Combine.{combineSections}
 use Rattle.rules.specs.Lowered.{Options, lowered}
 use Rattle.tables.specs.Runs.{held}
-use Rattle.combine.specs.Ready.{Written}
+use Rattle.combine.specs.Combined.{Written}
 
 -- the first n section words and the first e instruction words are those of the lowered machine of a tree that was accepted
 pub record Lowered (s i : List ℕ) (n e : ℕ) : Type 0 where

@@ -6,14 +6,10 @@ use Rattle.rules.specs.Tables.{runWords, allCode}
 use Rattle.rules.specs.Operations.{put}
 use Rattle.rules.specs.Demand.{All}
 use Rattle.laws.specs.Words.{InsSmall}
+use Rattle.laws.specs.SectionWord.{NextSmall}
 use Rattle.tables.specs.Runs.{held}
 
 -- what fits the fields of words
-abbrev pub NextSmall : SectionOrLine → Type 0
-NextSmall unfixed = Unit {0}
-NextSmall (section t) = t < 65535
-NextSmall (line r) = r < 65536
-
 abbrev pub SectSmall : SectionCode → Type 0
 SectSmall s = NextSmall s.success × All InsSmall s.instrs
 

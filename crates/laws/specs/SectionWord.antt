@@ -83,15 +83,15 @@ flag-again n h = by (eqb n 1) refl
 
 -- a successor by its kind and target, read in two steps
 module _ (r : Run) (k t : ℕ) (k-is : k ≡ r.kind) (t-is : t ≡ r.target) where
-  pub to-line : k ≡ 1 → line t ≡ successOf r
+  to-line : k ≡ 1 → line t ≡ successOf r
   unfolding successOf isOne
   to-line e = rw (← k-is, eq-eqb k 1 e, successOf, t-is)
 
-  pub to-none : (k ≡ 1 → ⊥) → t ≡ mark → unfixed ≡ successOf r
+  to-none : (k ≡ 1 → ⊥) → t ≡ mark → unfixed ≡ successOf r
   unfolding successOf isOne
   to-none e h = rw (← k-is, ne_eqb k 1 e, ← t-is, eq-eqb t mark h, successOf)
 
-  pub to-section : (k ≡ 1 → ⊥) → (t ≡ mark → ⊥) → section t ≡ successOf r
+  to-section : (k ≡ 1 → ⊥) → (t ≡ mark → ⊥) → section t ≡ successOf r
   unfolding successOf isOne
   to-section e h = rw (← k-is, ne_eqb k 1 e, ← t-is, ne_eqb t mark h, successOf) (ap section t-is)
 

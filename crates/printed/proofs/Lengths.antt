@@ -18,7 +18,7 @@ use Rattle.rules.specs.Tables.{Tables, Counts, flag, kind_of, target_of, success
 use Rattle.rules.specs.Listing.{digits, nat, int, hex, hexText, row, rowsN, rowsT, rowsV, rowsI, rowsS, listing, refusal}
 use Rattle.rules.specs.Lowered.{spans, texts}
 use Rattle.laws.specs.Words.{ins-small, run_small}
-use Rattle.laws.specs.Success.{flag-lt, kind-lt}
+use Rattle.laws.specs.SectionWord.{flag-lt, kind-lt}
 use Rattle.tables.specs.Runs.{count_of, sectionOf, held}
 use Rattle.tables.proofs.Sound.{sound}
 use Rattle.tables.proofs.Read.{read-nil, read-cons, count-is}

@@ -182,7 +182,6 @@ lists-more x {l} {n} {n'} {h} {k} {l'} s p q r a z =
 
 -- a section without instructions
 pub stored-empty : {l : Bool} {s : SectionOrLine} {n k : ℕ} {is se se' : List ℕ} {w : ℕ} → se' ≡ set se n w → w ≡ runWord (runOf l s k (k - k)) → Stored (record { lineStart = l; instrs = []; success = s }) n k k is is se se'
-unfolding sectionRun
 stored-empty {n = n} {k = k} {se = se} p q =
     let z : k - k ≡ 0 = omega arith in
     record { code = refl; ends = sym (add-zero k); word = p ∙ ap (λ (v : ℕ). set se n v) (rw z at q) }

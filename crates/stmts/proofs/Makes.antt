@@ -85,7 +85,6 @@ own-length e o d = rw (length-append, length-map)
 
 -- what is counted is what is there
 counted : (l : Bool) (s : SectionOrLine) (c : List Instruction) (k k' : ℕ) → k' ≡ k + length c → runOf l s k (k' - k) ≡ sectionRun (record { lineStart = l; instrs = c; success = s }) k
-unfolding sectionRun
 counted l s c k k' e = let z : k' - k ≡ length c = omega arith in rw z
 
 -- ---- the law: a step that was lowered, the instructions behind, and the word

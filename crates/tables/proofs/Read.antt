@@ -43,7 +43,6 @@ words-length k (s ∷ ss) = ap suc (words-length (k + length s.instrs) ss)
 
 -- a section's word by its parts
 pub word-is : (k : ℕ) (s : SectionCode) (l : Bool) (o : SectionOrLine) (c : ℕ) → l ≡ s.lineStart → o ≡ s.success → c ≡ length s.instrs → runWord (runOf l o k c) ≡ runWord (sectionRun s k)
-unfolding sectionRun
 word-is k s l o c p q r = rw (p, q, r)
 
 pub count-is : (w : ℕ) → (wordRun w).count ≡ count_of w

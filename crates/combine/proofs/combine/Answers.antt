@@ -1,7 +1,7 @@
 -- Each way out is one of Whole.
 use Rattle.std.proofs.Common.{sym, rules}
 use Rattle.combine.proofs.Whole.{combine-12, keeps, few-sections, combine-14, combine-15, no-links-back, combine-done}
-use Rattle.combine.specs.Again.{fits-sound}
+use Rattle.combine.proofs.Again.{fits-sound}
 use Rattle.combine.proofs.combine.Goals as goal
 
 pub returns-then-not-check : goal.returns-then-not-check

@@ -1,5 +1,5 @@
 -- Each turn a section goes or is passed (specs/Loop).
-use Rattle.combine.specs.Loop.{going-starts, going-sound, going_done, going_on, going-up, going-joined}
+use Rattle.combine.proofs.Loop.{going-starts, going-sound, going_done, going_on, going-up, going-joined}
 use Rattle.combine.proofs.combine_all.Goals as goal
 
 pub loop-s1-init : goal.loop-s1-init

@@ -1,6 +1,6 @@
 -- `left` sections are left, none below s1 may take its successor in, and combining them is combining all.
 use Rattle.std.proofs.Common.{◌-◌}
-use Rattle.combine.specs.Loop.{Going}
+use Rattle.combine.proofs.Loop.{Going}
 use Rattle.combine.proofs.combine_all.Given as goal
 
 abbrev pub invariant-loop-s1 : goal.invariant-loop-s1

@@ -1,6 +1,6 @@
 -- Each step is that of `joins` (specs/Joins), which says what the steps ask and what they leave.
 use Rattle.std.proofs.Common.{ℕ, set, length-set, ap, ◌∙◌, arith}
-use Rattle.join.specs.Joins.{enough, enough-code, joins}
+use Rattle.join.proofs.Joins.{enough, enough-code, joins}
 use Rattle.join.specs.Passes.{cutOut}
 use Rattle.join.proofs.combine_sections.Goals as goal
 

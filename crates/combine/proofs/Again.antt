@@ -16,16 +16,15 @@ use Rattle.rules.specs.Machine.{unfixed, section, line}
 use Rattle.rules.specs.Tables.{Tables, Counts, allb, insFits, fieldFits, successFits, startFits, runsFit, flag, kind_of, target_of, successOf, readSections, runWords, allCode, runOf}
 use Rattle.rules.specs.Demand.{All}
 use Rattle.laws.specs.Words.{InsSmall, ins-small, ins-again, run_small, run-again}
-use Rattle.words.specs.Runs.{run}
-use Rattle.words.proofs.Sections.{to-line, to_none, to-section}
+use Rattle.laws.specs.Lists.{both}
+use Rattle.laws.specs.SectionWord.{next-small, word-again}
 use Rattle.tables.specs.Rules.{sectionFits}
 use Rattle.tables.specs.Runs.{count_of, total, sectionOf, held}
 use Rattle.tables.proofs.Sound.{no, Sound as Keeps}
 use Rattle.tables.proofs.Read.{read-nil, read-cons, read_length, all_cons, whole-total}
-use Rattle.join.specs.Held.{NextSmall, SectSmall, Sound}
-use Rattle.join.specs.Tells.{no_words, words-cons, no_code, code-cons}
-use Rattle.combine.specs.Counting.{total-nil, total-cons, one_code}
-use Rattle.combine.specs.Pairs.{both}
+use Rattle.join.specs.Held.{SectSmall, Sound}
+use Rattle.join.proofs.Tells.{no_words, words-cons, no_code, code-cons}
+use Rattle.combine.proofs.Counted.{total-nil, total-cons, one_code}
 
 -- each word of a list has 64 bits
 abbrev pub Wide : List ℕ → Type 0
@@ -73,41 +72,6 @@ code-all (w ∷ ws) is h =
 
 -- ---- sections
 
-flag-again : (n : ℕ) → n < 2 → flag (isOne n) ≡ n
-unfolding flag isOne
-flag-again n h = by (eqb n 1) refl
-  where
-    by : (b : Bool) → eqb n 1 ≡ b → flag (eqb n 1) ≡ n
-    by true e = rw e (sym (eqb-true _ _ e))
-    by false e = rw e (let z = eqb-false n 1 e in omega (arith, z))
-
-module _ (r : Run) where
-  is-line : eqb r.kind 1 ≡ true → successOf r ≡ line r.target
-  is-line e = sym (to-line r r.kind r.target refl refl (eqb-true _ _ e))
-
-  is_none : eqb r.kind 1 ≡ false → eqb r.target mark ≡ true → successOf r ≡ unfixed
-  is_none e d = sym (to_none r r.kind r.target refl refl (eqb-false _ _ e) (eqb-true _ _ d))
-
-  is-section : eqb r.kind 1 ≡ false → eqb r.target mark ≡ false → successOf r ≡ section r.target
-  is-section e d = sym (to-section r r.kind r.target refl refl (eqb-false _ _ e) (eqb-false _ _ d))
-
-  kind-again : (b c : Bool) → eqb r.kind 1 ≡ b → eqb r.target mark ≡ c → r.kind < 2 → kind_of (successOf r) ≡ r.kind
-  unfolding kind_of
-  kind-again true c e d h = rw (is-line e) (sym (eqb-true _ _ e))
-  kind-again false true e d h = rw (is_none e d) (let n = eqb-false r.kind 1 e in omega (arith, n))
-  kind-again false false e d h = rw (is-section e d) (let n = eqb-false r.kind 1 e in omega (arith, n))
-
-  target-again : (b c : Bool) → eqb r.kind 1 ≡ b → eqb r.target mark ≡ c → target_of (successOf r) ≡ r.target
-  unfolding target_of
-  target-again true c e d = rw (is-line e)
-  target-again false true e d = rw (is_none e d) (sym (eqb-true _ _ d))
-  target-again false false e d = rw (is-section e d)
-
-  next_small : (b c : Bool) → eqb r.kind 1 ≡ b → eqb r.target mark ≡ c → r.target < 65536 → NextSmall (successOf r)
-  next_small true c e d h = rw (is-line e) h
-  next_small false true e d h = rw (is_none e d) tt
-  next_small false false e d h = rw (is-section e d) (let n = eqb-false r.target mark d in omega (arith, n))
-
 code-small : (is : List ℕ) → All InsSmall (map wordIns is)
 code-small [] = tt
 code-small (i ∷ is) = (ins-small i, code-small is)
@@ -115,17 +79,14 @@ code-small (i ∷ is) = (ins-small i, code-small is)
 -- what is read fits its fields
 pub read_small : (ws is : List ℕ) → All SectSmall (readSections ws is)
 read_small [] is = rw read-nil tt
-read_small (w ∷ ws) is = rw read-cons ((next_small (wordRun w) _ _ refl refl (run_small w).1.1.0, code-small (take (wordRun w).count is)), read_small ws (drop (count_of w) is))
-
-same-run : {a b c d e a' b' c' d' e' : ℕ} → a ≡ a' → b ≡ b' → c ≡ c' → d ≡ d' → e ≡ e' → run a b c d e ≡ run a' b' c' d' e'
-same-run p q r s t = cc
+read_small (w ∷ ws) is = rw read-cons ((next-small (wordRun w) (run_small w), code-small (take (wordRun w).count is)), read_small ws (drop (count_of w) is))
 
 -- the word of what was read of a word
-word-again : (w k : ℕ) (is : List ℕ) → w < 2 ^ 64 → runSpare w ≡ 0 → (wordRun w).first ≡ k → count_of w ≤ length is → runWord (runOf (isOne (wordRun w).lineStart) (successOf (wordRun w)) k (length (map wordIns (take (wordRun w).count is)))) ≡ w
+section-again : (w k : ℕ) (is : List ℕ) → w < 2 ^ 64 → runSpare w ≡ 0 → (wordRun w).first ≡ k → count_of w ≤ length is → runWord (runOf (isOne (wordRun w).lineStart) (successOf (wordRun w)) k (length (map wordIns (take (wordRun w).count is)))) ≡ w
 unfolding count_of
-word-again w k is h z f l =
-    ap runWord (same-run (flag-again (wordRun w).lineStart (run_small w).0) (kind-again (wordRun w) _ _ refl refl (run_small w).1.0) (target-again (wordRun w) _ _ refl refl) (sym f) (simp (length-map, length-take-le (wordRun w).count is l)))
-    ∙ run-again w h z
+section-again w k is h z f l =
+    let n : length (map wordIns (take (wordRun w).count is)) ≡ (wordRun w).count = simp (length-map, length-take-le (wordRun w).count is l) in
+    rw (n, ← f) (word-again w h z)
 
 runs-split : (u : Counts) (i k w : ℕ) (ws : List ℕ) → runsFit u i k (w ∷ ws) ≡ true → (sectionFits u i k w ≡ true) × (runsFit u (suc i) (k + count_of w) ws ≡ true)
 unfolding runsFit sectionFits count_of
@@ -155,7 +116,7 @@ words-again u (w ∷ ws) is i k h e l =
     let r : total ws ≤ length (drop (count_of w) is) = simp length-drop (omega arith) in
     let n : length (sectionOf w is).instrs ≡ count_of w = ap length (one_code w is) ∙ simp (length-map, length-take-le (count_of w) is c) in
     rw (read-cons, words-cons k (sectionOf w is) (readSections ws (drop (count_of w) is)), n)
-    (ap₂ (λ (x : ℕ) (y : List ℕ). x ∷ y) (rw (← n) (word-again w k is (h 0) d.0 d.1 c)) (words-again u ws (drop (count_of w) is) (suc i) (k + count_of w) (λ j. h (suc j)) s.1 r))
+    (ap₂ (λ (x : ℕ) (y : List ℕ). x ∷ y) (rw (← n) (section-again w k is (h 0) d.0 d.1 c)) (words-again u ws (drop (count_of w) is) (suc i) (k + count_of w) (λ j. h (suc j)) s.1 r))
 
 -- ---- all
 

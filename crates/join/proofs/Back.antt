@@ -11,7 +11,7 @@ use Rattle.laws.specs.Words.{InsSmall, ins-back}
 use Rattle.tables.specs.Runs.{count_of, sectionOf, held}
 use Rattle.tables.proofs.Read.{read-nil, read-cons}
 use Rattle.join.specs.Held.{SectSmall, Holds}
-use Rattle.join.specs.Tells.{Tells, Tell, tell, code-cons}
+use Rattle.join.proofs.Tells.{Tells, Tell, tell, code-cons}
 
 pub code-back : (c : List Instruction) → All InsSmall c → map wordIns (map insWord c) ≡ c
 code-back [] h = refl

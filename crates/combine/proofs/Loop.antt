@@ -1,4 +1,4 @@
--- What the pass leaves, and what holds of the tables on the way. Assumes nothing.
+-- What holds of the tables while sections are joined, turn by turn. Assumes nothing.
 use Rattle.std.specs.Prelude.{◌≡◌, List, ◌++◌, map, ℕ, ◌+◌, ◌-◌, ◌<◌, ◌≤◌, max, length, drop, get_or, replicate, true}
 use Rattle.std.proofs.Common.{sym, ap, ◌∙◌, subst, append_assoc, arith, take-append-drop, drop_at}
 use Rattle.std.proofs.Math.Option.{none, some}
@@ -9,21 +9,14 @@ use Rattle.rules.specs.Machine.{SectionCode, absent}
 use Rattle.rules.specs.Tables.{runWords, allCode}
 use Rattle.rules.specs.Operations.{put, allAhead}
 use Rattle.rules.specs.Combine.{mate, combineAt, combineFuel, combineSections}
-use Rattle.joins.specs.Pairs.{Pair}
 use Rattle.tables.specs.Runs.{held}
 use Rattle.tables.proofs.Read.{words-length}
 use Rattle.join.specs.Held.{Holds, Sound, Changed}
-use Rattle.join.specs.Reads.{holds-held, sound}
-use Rattle.join.specs.Joins.{join-holds}
-use Rattle.combine.specs.Kept.{Forward, Low, low-join, forward-join}
-use Rattle.combine.specs.Pairs.{forward, to-pair, pair-up, low-none, low-pair, low-more, fuel-join, fuel-none}
-
--- the tables hold the sections ss, of which there are r, no more than before, with as many instructions
-pub record Combined (s i s' i' : List ℕ) (n e : ℕ) (ss : List SectionCode) (r : ℕ) : Type 0 where
-  pub tables : Changed s i s' i' n e ss
-  pub count : r ≡ length ss
-  pub code : e ≡ length (allCode ss)
-  pub fewer : r ≤ n
+use Rattle.join.proofs.Back.{holds-held, sound}
+use Rattle.join.proofs.Joins.{join-holds}
+use Rattle.joins.specs.Ahead.{Forward, forward, pair-up, low-join, forward-join}
+use Rattle.joins.specs.Pairs.{Pair, Low, to-pair, low-none, low-pair, low-more, fuel-join, fuel-none}
+use Rattle.combine.specs.Combined.{Combined}
 
 -- `left` sections ss are left of the n in s and i, none below s1 may take its successor in, and combining them is combining all
 pub record Going (s i : List ℕ) (n e : ℕ) (s' i' : List ℕ) (left s1 : ℕ) : Type 0 where
@@ -135,8 +128,8 @@ module _ (s i : List ℕ) (n e : ℕ) (s' i' : List ℕ) (left s1 : ℕ) (g : Go
             ss = combineAt g.ss s1 s2;
             holds = k;
             changed = changed-twice s i s' i' s'' i'' n left e g.ss (combineAt g.ss s1 s2) long (omega (arith, k.count)) g.fewer g.holds.code g.changed d;
-            ahead = forward-join g.ss s1 s2 paired q u.0 g.ahead;
-            low = low-join g.ss s1 s2 paired q u.0 g.low;
+            ahead = forward-join g.ss s1 s2 paired u.0 g.ahead;
+            low = low-join g.ss s1 s2 paired u.0 g.low;
             rest = sym (fuel-join g.ss left s1 s2 (omega arith) (low-pair g.ss s1 s2 g.low q found)) ∙ g.rest;
             within = omega (arith, u.0, u.1);
             fewer = omega (arith, g.fewer);

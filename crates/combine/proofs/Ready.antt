@@ -16,38 +16,26 @@ use Rattle.rules.specs.Operations.{put, fixedHere, allAhead, combineIn}
 use Rattle.rules.specs.Combine.{combined}
 use Rattle.rules.specs.Demand.{All}
 use Rattle.laws.specs.Words.{InsSmall}
-use Rattle.machines.specs.Fits.{Held, Counted, SectFit, NextFit, AllAt, MachineFit, op-small, field-small}
+use Rattle.machines.specs.Fits.{Held, Counted, SectFit, NextFit, AllAt, MachineFit, ins-small, next-small}
 use Rattle.tables.specs.Runs.{held}
 use Rattle.tables.proofs.Read.{words-length}
-use Rattle.join.specs.Held.{NextSmall, SectSmall, Holds, Sound}
-use Rattle.join.specs.Reads.{sound, holds-held}
-use Rattle.join.specs.Small.{all_left, all_right}
-use Rattle.combine.specs.Loop.{Combined, put-twice}
+use Rattle.join.specs.Held.{SectSmall, Holds, Sound}
+use Rattle.join.proofs.Back.{sound, holds-held}
+use Rattle.laws.specs.Lists.{all-left, all-right, all-map}
+use Rattle.combine.specs.Combined.{Combined, Written}
+use Rattle.combine.proofs.Loop.{put-twice}
 
 -- ---- what keeps the rules fits its fields
 module _ (u : Counts) (c : Counted u) where
-  ins-small : (i : Instruction) → Held u (kinds i.op) i → InsSmall i
-  ins-small i h = go (kinds i.op) refl h
-    where
-      go : (k : Option (Kind × Kind × Kind)) → kinds i.op ≡ k → Held u k i → InsSmall i
-      go none e q = absurd q
-      go (some k) e q = (omega (arith, op-small i.op k e), (field-small u c k.0 i.fst q.0, (field-small u c k.1 i.snd q.1, (field-small u c k.2 i.thd q.2, tt))))
-
   code-small : (l : List Instruction) → All (λ (i : Instruction). Held u (kinds i.op) i) l → All InsSmall l
-  code-small [] h = tt
-  code-small (i ∷ l) h = (ins-small i h.0, code-small l h.1)
+  code-small l h = all-map (λ (i : Instruction). Held u (kinds i.op) i) InsSmall (ins-small u c) l h
 
-  next_small : (x : SectionOrLine) → NextFit u x → NextSmall x
-  next_small unfixed h = tt
-  next_small (section t) h = omega (arith, c.sections)
-  next_small (line r) h = omega (arith, c.numbers)
-
-  all_small : (k : ℕ) (ss : List SectionCode) → AllAt (SectFit u) k ss → All (λ (i : Instruction). Held u (kinds i.op) i) (allCode ss) → All SectSmall ss
+  all-small : (k : ℕ) (ss : List SectionCode) → AllAt (SectFit u) k ss → All (λ (i : Instruction). Held u (kinds i.op) i) (allCode ss) → All SectSmall ss
   unfolding allCode
-  all_small k [] f h = tt
-  all_small k (s ∷ ss) f h =
+  all-small k [] f h = tt
+  all-small k (s ∷ ss) f h =
       let H : Instruction → Type 0 = λ i. Held u (kinds i.op) i in
-      ((next_small s.success f.0.success, code-small s.instrs (all_left H s.instrs (allCode ss) h)), all_small (suc k) ss f.1 (all_right H s.instrs (allCode ss) h))
+      ((next-small u c s.success f.0.success, code-small s.instrs (all-left H s.instrs (allCode ss) h)), all-small (suc k) ss f.1 (all-right H s.instrs (allCode ss) h))
 
 -- ---- what combine does not refuse has no links back
 
@@ -85,7 +73,7 @@ module _ (m : Machine) (f : MachineFit m) (s i : List ℕ) (n e : ℕ) (hn : len
         code = he;
         few = omega (arith, f.counted.sections);
         short = omega (arith, f.counted.instrs);
-        small = all_small (countsOf m) f.counted 0 m.sections f.sects f.instrs;
+        small = all-small (countsOf m) f.counted 0 m.sections f.sects f.instrs;
       }
 
   -- and may be combined as they stand
@@ -106,11 +94,6 @@ unfolding put
 put-over n k ws us t h l m =
     let a : max n k ≡ n = max-eq_left m in
     rw (drop_at us (replicate (n - length us) 0 ++ drop (max n (length us)) t) k h, h, l, a)
-
--- the tables s and i were written over s₀ and i₀, with zeros up to n₀ and e₀; combined, they are as if written over them at once
-pub record Written (s₀ i₀ s i : List ℕ) (n e : ℕ) (ss : List SectionCode) : Type 0 where
-  pub sections : s ≡ put 0 n (runWords 0 ss) s₀
-  pub instrs : i ≡ put 0 e (map insWord (allCode ss)) i₀
 
 pub written_over : (s₀ i₀ s i s' i' : List ℕ) (n₀ e₀ n e r : ℕ) (ss ts : List SectionCode) → Written s₀ i₀ s i n₀ e₀ ss → length ss ≡ n → length (allCode ss) ≡ e → n ≤ n₀ → e ≤ e₀ → Combined s i s' i' n e ts r → Written s₀ i₀ s' i' n₀ e₀ ts
 written_over s₀ i₀ s i s' i' n₀ e₀ n e r ss ts w hn he ln le c =

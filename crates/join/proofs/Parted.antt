@@ -8,7 +8,7 @@ use Rattle.rules.specs.Machine.{SectionCode, absent}
 use Rattle.rules.specs.Tables.{allCode}
 use Rattle.rules.specs.Clean.{renIns, ren}
 use Rattle.rules.specs.Combine.{without, joined, combineAt}
-use Rattle.join.specs.Tells.{no_code, code-cons, code-append}
+use Rattle.join.proofs.Tells.{no_code, code-cons, code-append}
 
 -- ---- a list cut at two places
 pub cut-two : {A : Type 0} (d : A) (l : List A) (i j : ℕ) → i < j → j < length l → l ≡ take i l ++ (get_or l i d ∷ (slice (suc i) j l ++ (get_or l j d ∷ drop (suc j) l)))

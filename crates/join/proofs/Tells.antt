@@ -11,10 +11,8 @@ use Rattle.rules.specs.Tables.{kind_of, target_of, successOf, runWords, allCode,
 use Rattle.rules.specs.Clean.{renNext, ren}
 use Rattle.rules.specs.Combine.{joined}
 use Rattle.rules.specs.Demand.{All}
-use Rattle.laws.specs.Words.{run-back}
-use Rattle.laws.specs.Success.{flag-lt, kind-lt}
-use Rattle.machines.specs.Fits.{flag_one}
-use Rattle.join.specs.Held.{NextSmall, SectSmall}
+use Rattle.laws.specs.SectionWord.{NextSmall, start-is, next-is, count-is}
+use Rattle.join.specs.Held.{SectSmall}
 use Rattle.tables.specs.Runs.{count_of, total}
 use Rattle.join.specs.Passes.{mergedWord, word_at, numbered}
 
@@ -35,36 +33,6 @@ tell-append [] vs [] ys p q = q
 tell-append [] vs (x ∷ xs) ys p q = absurd p
 tell-append (u ∷ us) vs [] ys p q = absurd p
 tell-append (u ∷ us) vs (x ∷ xs) ys p q = (p.0, tell-append us vs xs ys p.1 q)
-
--- ---- the word of fields that fit
-
-target-lt : (x : SectionOrLine) → NextSmall x → target_of x < 65536
-unfolding target_of
-target-lt unfixed h = omega arith
-target-lt (section t) h = omega arith
-target-lt (line r) h = h
-
-next-back : (b : Bool) (x : SectionOrLine) (f c : ℕ) → NextSmall x → successOf (runOf b x f c) ≡ x
-unfolding successOf kind_of target_of isOne
-next-back b unfixed f c h = refl
-next-back b (section t) f c h = rw (ne_eqb t mark (λ e. omega arith), successOf)
-next-back b (line r) f c h = refl
-
-module _ (b : Bool) (x : SectionOrLine) (f c : ℕ) (h : NextSmall x) (p : f < 65536) (q : c < 65536) where
-  fields_back : wordRun (runWord (runOf b x f c)) ≡ runOf b x f c
-  fields_back = run-back (runOf b x f c) (flag-lt b, (kind-lt x, (target-lt x h, (p, (q, tt)))))
-
-  pub start_is : isOne (wordRun (runWord (runOf b x f c))).lineStart ≡ b
-  start_is = rw fields_back (flag_one b)
-
-  pub next-is : successOf (wordRun (runWord (runOf b x f c))) ≡ x
-  next-is = rw fields_back (next-back b x f c h)
-
-  pub first-is : (wordRun (runWord (runOf b x f c))).first ≡ f
-  first-is = rw fields_back
-
-  pub count-is : (wordRun (runWord (runOf b x f c))).count ≡ c
-  count-is = rw fields_back
 
 -- ---- the words of sections
 
@@ -104,7 +72,7 @@ tells s k h l =
     let p : k < 65536 = omega arith in
     let q : length s.instrs < 65536 = omega arith in
     record {
-      start = start_is s.lineStart s.success k (length s.instrs) h.0 p q;
+      start = start-is s.lineStart s.success k (length s.instrs) h.0 p q;
       next = next-is s.lineStart s.success k (length s.instrs) h.0 p q;
       count = count-is s.lineStart s.success k (length s.instrs) h.0 p q;
     }
@@ -127,7 +95,7 @@ merged u v a b p q h f l =
     let y = successOf (wordRun v) in
     let d = (wordRun u).count + (wordRun v).count in
     record {
-      start = start_is x y (wordRun u).first d n f c ∙ p.start;
+      start = start-is x y (wordRun u).first d n f c ∙ p.start;
       next = next-is x y (wordRun u).first d n f c ∙ q.next;
       count = count-is x y (wordRun u).first d n f c ∙ (rw (p.count, q.count) (sym (length-append a.instrs b.instrs)));
     }

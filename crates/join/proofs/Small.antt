@@ -8,33 +8,16 @@ use Rattle.rules.specs.Tables.{allCode}
 use Rattle.rules.specs.Clean.{renIns, renNext, ren}
 use Rattle.rules.specs.Demand.{All}
 use Rattle.laws.specs.Words.{InsSmall, ins-back}
-use Rattle.joins.specs.Numbers.{lt-or-le, fall-low, fall-high}
-use Rattle.join.specs.Held.{NextSmall, SectSmall}
+use Rattle.laws.specs.Lists.{all-append}
+use Rattle.laws.specs.SectionWord.{NextSmall}
+use Rattle.joins.specs.Numbers.{fall-le}
+use Rattle.join.specs.Held.{SectSmall}
 use Rattle.join.specs.Passes.{jumpFallen}
-
-pub all_left : {A : Type 0} (P : A → Type 0) (a b : List A) → All P (a ++ b) → All P a
-all_left P [] b h = tt
-all_left P (x ∷ a) b h = (h.0, all_left P a b h.1)
-
-pub all_right : {A : Type 0} (P : A → Type 0) (a b : List A) → All P (a ++ b) → All P b
-all_right P [] b h = h
-all_right P (x ∷ a) b h = all_right P a b h.1
-
-pub all_append : {A : Type 0} (P : A → Type 0) (a b : List A) → All P a → All P b → All P (a ++ b)
-all_append P [] b p q = q
-all_append P (x ∷ a) b p q = (p.0, all_append P a b p.1 q)
 
 pub code-small : (ss : List SectionCode) → All SectSmall ss → All InsSmall (allCode ss)
 unfolding allCode
 code-small [] h = tt
-code-small (s ∷ ss) h = all_append InsSmall s.instrs (allCode ss) h.0.1 (code-small ss h.1)
-
-pub fall-le : (j t : ℕ) → fall j t ≤ t
-fall-le j t = go (lt-or-le j t)
-  where
-    go : (j < t) ⊎ (t ≤ j) → fall j t ≤ t
-    go (inl p) = rw (fall-high j t p) (omega arith)
-    go (inr p) = rw (fall-low j t p) (omega arith)
+code-small (s ∷ ss) h = all-append InsSmall s.instrs (allCode ss) h.0.1 (code-small ss h.1)
 
 ins-fall : (j : ℕ) (c : List Instruction) → All InsSmall c → All InsSmall (map (renIns (fall j)) c)
 ins-fall j [] h = tt

@@ -18,16 +18,18 @@ use Rattle.rules.specs.Operations.{put}
 use Rattle.rules.specs.Clean.{renIns, ren}
 use Rattle.rules.specs.Combine.{joined, combineAt}
 use Rattle.rules.specs.Demand.{All}
+use Rattle.laws.specs.Lists.{all-left, all-right, all-append}
+use Rattle.laws.specs.SectionWord.{first-is, count-is}
 use Rattle.laws.specs.Words.{InsSmall}
 use Rattle.tables.specs.Runs.{count_of, total}
 use Rattle.tables.proofs.Read.{words-length}
 use Rattle.join.specs.Held.{SectSmall, Holds, Changed}
 use Rattle.join.specs.Parts.{exchanged}
 use Rattle.join.specs.Passes.{jumpFallen, mergedWord, cutOut, numbered}
-use Rattle.join.specs.Tells.{Tell, tell, tells, tell-append, tell-total, tell-length, merged, settles, words-cons, words_append, code-append, code-longer, first-is, count-is}
-use Rattle.join.specs.Parted.{cut-two, join-parts, code_map, code-before, code-after}
-use Rattle.join.specs.Cuts.{exchange-at, cut_at}
-use Rattle.join.specs.Small.{all_left, all_right, all_append, code-small, small-fall, jumps-fall}
+use Rattle.join.proofs.Tells.{Tell, tell, tells, tell-append, tell-total, tell-length, merged, settles, words-cons, words_append, code-append, code-longer}
+use Rattle.join.proofs.Parted.{cut-two, join-parts, code_map, code-before, code-after}
+use Rattle.join.proofs.Cuts.{exchange-at, cut_at}
+use Rattle.join.proofs.Small.{code-small, small-fall, jumps-fall}
 
 -- ---- the steps
 -- what is asked on the way, and what is left at the end: section i takes section j in, and `new` are the sections afterwards
@@ -68,13 +70,13 @@ module _ (ps ms zs : List SectionCode) (a b : SectionCode) (R Q : List ℕ) (i j
   lengths = omega (arith, ap length (code-append ps (a ∷ (ms ++ (b ∷ zs)))), length-append (allCode ps) (allCode (a ∷ (ms ++ (b ∷ zs)))), code-longer a (ms ++ (b ∷ zs)), ap length (code-append ms (b ∷ zs)), length-append (allCode ms) (allCode (b ∷ zs)), code-longer b zs)
 
   small-a : SectSmall a
-  small-a = (all_right SectSmall ps (a ∷ (ms ++ (b ∷ zs))) small).0
+  small-a = (all-right SectSmall ps (a ∷ (ms ++ (b ∷ zs))) small).0
 
   small-behind : All SectSmall (ms ++ (b ∷ zs))
-  small-behind = (all_right SectSmall ps (a ∷ (ms ++ (b ∷ zs))) small).1
+  small-behind = (all-right SectSmall ps (a ∷ (ms ++ (b ∷ zs))) small).1
 
   small_b : SectSmall b
-  small_b = (all_right SectSmall ms (b ∷ zs) small-behind).0
+  small_b = (all-right SectSmall ms (b ∷ zs) small-behind).0
 
   -- the words of a and b
   abbrev wa : ℕ
@@ -132,19 +134,19 @@ module _ (ps ms zs : List SectionCode) (a b : SectionCode) (R Q : List ℕ) (i j
 
   small-new : All SectSmall new
   small-new =
-      all_append SectSmall ps (joined a b ∷ (ms ++ zs))
-      (all_left SectSmall ps (a ∷ (ms ++ (b ∷ zs))) small) (
-        (small_b.0, all_append InsSmall a.instrs b.instrs small-a.1 small_b.1),
-        all_append SectSmall ms zs (all_left SectSmall ms (b ∷ zs) small-behind) (all_right SectSmall ms (b ∷ zs) small-behind).1,
+      all-append SectSmall ps (joined a b ∷ (ms ++ zs))
+      (all-left SectSmall ps (a ∷ (ms ++ (b ∷ zs))) small) (
+        (small_b.0, all-append InsSmall a.instrs b.instrs small-a.1 small_b.1),
+        all-append SectSmall ms zs (all-left SectSmall ms (b ∷ zs) small-behind) (all-right SectSmall ms (b ∷ zs) small-behind).1,
       )
 
   new-words : Tell (A ++ (mergedWord wa wb ∷ (M ++ Z))) new
   new-words =
       let l = lengths in
       tell-append A (mergedWord wa wb ∷ (M ++ Z)) ps (joined a b ∷ (ms ++ zs))
-      (tell ps 0 (all_left SectSmall ps (a ∷ (ms ++ (b ∷ zs))) small) (omega arith)) (
+      (tell ps 0 (all-left SectSmall ps (a ∷ (ms ++ (b ∷ zs))) small) (omega arith)) (
         merged wa wb a b (tells a ka small-a (omega arith)) (tells b kb small_b (omega arith)) small_b.0 (omega (arith, first-a)) (omega arith),
-        tell-append M Z ms zs (tell ms km (all_left SectSmall ms (b ∷ zs) small-behind) (omega arith)) (tell zs kz (all_right SectSmall ms (b ∷ zs) small-behind).1 (omega arith)),
+        tell-append M Z ms zs (tell ms km (all-left SectSmall ms (b ∷ zs) small-behind) (omega arith)) (tell zs kz (all-right SectSmall ms (b ∷ zs) small-behind).1 (omega arith)),
       )
 
   -- the section words: S1's takes S2 in, S2's goes, all are numbered anew

@@ -1,0 +1,97 @@
+-- The tests of 14 and 15 on words are those of `rules` on what the words hold. Assumes nothing.
+use Rattle.std.specs.Prelude.{◌≡◌, Bool, ◌||◌, List, [], ◌∷◌, ℕ, zero, suc, ◌<◌, ◌≤◌, length, take, drop, get_or}
+use Rattle.std.proofs.Math.Path.{refl}
+use Rattle.std.proofs.Common.{sym, ap, ◌∙◌, arith}
+use Rattle.std.proofs.Math.Bool.{true, false, cond}
+use Rattle.std.proofs.Math.Option.{none, some}
+use Rattle.std.proofs.Math.Dec.{leb, ltb}
+use Rattle.std.proofs.Math.ListN.{get_elem?}
+use Rattle.std.proofs.Math.Seq.{get_or-take, length-take-le}
+use borrow.Author.Tests.{ltb-true, ltb-false}
+use Rattle.rules.specs.Bits.{isOne}
+use Rattle.rules.specs.Word.{wordRun}
+use Rattle.rules.specs.Machine.{SectionOrLine, unfixed, section, line, SectionCode, absent}
+use Rattle.rules.specs.Tables.{allb, successOf, readSections}
+use Rattle.rules.specs.Operations.{fixedHere, nextAhead, allAhead}
+use Rattle.tables.specs.Runs.{count_of, sectionOf, fixed_word}
+use Rattle.tables.proofs.Read.{read-nil, read-cons, all_nil, all_cons}
+use Rattle.laws.specs.Lists.{at-elem, at-past}
+use Rattle.combine.specs.Tests.{start_at, nextIn, wordAhead, wordsAhead}
+
+-- ---- 14
+
+one-fixed : (w : ℕ) (is : List ℕ) → fixedHere (sectionOf w is) ≡ fixed_word w
+unfolding fixedHere fixed_word
+one-fixed w is = refl
+
+pub fixed-are : (ws is : List ℕ) → allb fixedHere (readSections ws is) ≡ allb fixed_word ws
+fixed-are [] is = rw read-nil (all_nil fixedHere ∙ sym (all_nil fixed_word))
+fixed-are (w ∷ ws) is = rw (read-cons, all_cons fixedHere (sectionOf w is) (readSections ws (drop (count_of w) is)) _ (one-fixed w is), all_cons fixed_word w ws _ refl, fixed-are ws (drop (count_of w) is))
+
+-- ---- 15
+
+-- what stands at t of what words hold
+elem_at : (ws is : List ℕ) (t : ℕ) → t < length ws → (s : SectionCode) × (get_elem? (readSections ws is) t ≡ some s) × (s.lineStart ≡ isOne (wordRun (get_or ws t 0)).lineStart) × (s.success ≡ successOf (wordRun (get_or ws t 0)))
+elem_at [] is t h = absurd (omega arith)
+elem_at (w ∷ ws) is zero h = rw read-cons (_, refl, refl, refl)
+elem_at (w ∷ ws) is (suc t) h = rw read-cons (elem_at ws (drop (count_of w) is) t (omega arith))
+
+elem_past : (ws is : List ℕ) (t : ℕ) → length ws ≤ t → get_elem? (readSections ws is) t ≡ none
+elem_past [] is t h = rw read-nil
+elem_past (w ∷ ws) is zero h = absurd (omega arith)
+elem_past (w ∷ ws) is (suc t) h = rw read-cons (elem_past ws (drop (count_of w) is) t (omega arith))
+
+-- the line start and the successor of section t
+module _ (s i : List ℕ) (n : ℕ) (h : n ≤ length s) (t : ℕ) where
+  module _ (k : t < n) where
+    long : t < length (take n s)
+    long = omega (arith, length-take-le n s h)
+
+    pub start-at : (get_or (readSections (take n s) i) t absent).lineStart ≡ isOne (wordRun (get_or s t 0)).lineStart
+    start-at =
+        let e = elem_at (take n s) i t long in
+        ap (λ (x : SectionCode). x.lineStart) (at-elem (readSections (take n s) i) t absent e.0 e.1) ∙ (e.2 ∙ ap (λ (w : ℕ). isOne (wordRun w).lineStart) (get_or-take n s t 0 k))
+
+    pub success-at : (get_or (readSections (take n s) i) t absent).success ≡ successOf (wordRun (get_or s t 0))
+    success-at =
+        let e = elem_at (take n s) i t long in
+        ap (λ (x : SectionCode). x.success) (at-elem (readSections (take n s) i) t absent e.0 e.1) ∙ (e.3 ∙ ap (λ (w : ℕ). successOf (wordRun w)) (get_or-take n s t 0 k))
+
+  pub past-at : n ≤ t → get_or (readSections (take n s) i) t absent ≡ absent
+  past-at k = at-past (readSections (take n s) i) t absent (elem_past (take n s) i t (omega (arith, length-take-le n s h)))
+
+module _ (s i : List ℕ) (n : ℕ) (h : n ≤ length s) where
+  next-is : (k : ℕ) (x : SectionOrLine) → nextAhead (readSections (take n s) i) k x ≡ nextIn s n k x
+  unfolding nextAhead start_at
+  next-is k unfixed = refl
+  next-is k (section t) = go (ltb t n) refl
+    where
+      go : (b : Bool) → ltb t n ≡ b → elim (get_elem? (readSections (take n s) i) t) as (λ z. Bool) [ none ↦ true | some x ↦ x.lineStart || leb k t ] ≡ cond b (isOne (wordRun (get_or s t 0)).lineStart) true || leb k t
+      go true e =
+          let p = ltb-true t n e in
+          let q = elem_at (take n s) i t (omega (arith, length-take-le n s h)) in
+          rw (q.1, q.2, get_or-take n s t 0 p)
+      go false e = rw (elem_past (take n s) i t (omega (arith, length-take-le n s h, ltb-false t n e)))
+  next-is k (line r) = refl
+
+  aheads-cons : (k : ℕ) (x : SectionCode) (xs : List SectionCode) → allAhead (readSections (take n s) i) k (x ∷ xs) ≡ cond (nextAhead (readSections (take n s) i) k x.success) (allAhead (readSections (take n s) i) (suc k) xs) false
+  unfolding allAhead
+  aheads-cons k x xs = by (nextAhead (readSections (take n s) i) k x.success)
+    where
+      by : (b : Bool) → elim b as (λ z. Bool) [ false ↦ false | true ↦ allAhead (readSections (take n s) i) (suc k) xs ] ≡ cond b (allAhead (readSections (take n s) i) (suc k) xs) false
+      by true = refl
+      by false = refl
+
+  aheads-nil : (k : ℕ) → allAhead (readSections (take n s) i) k [] ≡ wordsAhead s n k []
+  unfolding allAhead wordsAhead
+  aheads-nil k = refl
+
+  words-cons : (k w : ℕ) (ws : List ℕ) → wordsAhead s n k (w ∷ ws) ≡ cond (nextIn s n k (successOf (wordRun w))) (wordsAhead s n (suc k) ws) false
+  unfolding wordsAhead
+  words-cons k w ws = refl
+
+  pub ahead-from : (k : ℕ) (ws is : List ℕ) → allAhead (readSections (take n s) i) k (readSections ws is) ≡ wordsAhead s n k ws
+  ahead-from k [] is = ap (allAhead (readSections (take n s) i) k) (read-nil is) ∙ aheads-nil k
+  ahead-from k (w ∷ ws) is =
+      ap (allAhead (readSections (take n s) i) k) (read-cons w ws is)
+      ∙ rw (aheads-cons k (sectionOf w is) (readSections ws (drop (count_of w) is)), words-cons k w ws, next-is k (successOf (wordRun w)), ahead-from (suc k) ws (drop (count_of w) is))
