@@ -9,7 +9,7 @@ use lib.Seq.{length-take-le}
 use Rattle.rules.specs.Bits.{isOne}
 use Rattle.rules.specs.Constants.{mark}
 use Rattle.rules.specs.Word.{wordRun, runWord, wordIns, insWord}
-use Rattle.rules.specs.Tables.{readSections, sectionRun, runWords, allCode}
+use Rattle.rules.specs.Tables.{readSections, sectionRun, runWords, allCode, runOf}
 use Rattle.rules.specs.Clean.{renIns, ren, keep}
 use Rattle.tables.specs.Runs.{fixed_word, count_of, total, sectionOf}
 use Rattle.tables.proofs.Read.{read-cons, words-cons, word-is, count-is, code-cons}
@@ -62,7 +62,7 @@ module _ (f : ℕ → ℕ) (fb : (t : ℕ) → f t < mark) where
     pack-step false e ih k = rw (both-fixed f fb (bump j w) w h, keep-cons w ws is, e) (ih k)
     pack-step true e ih k =
         rw (both-fixed f fb (bump j w) w h, keep-cons w ws is, e, both-count f fb (bump j w) w h, sec-word k (bump j w) w is h l, words-cons, sec-length w is l)
-        (ap (λ (x : List ℕ). runWord (sectionRun (ren f (sectionOf w is)) k) ∷ x) (ih (k + count_of w)))
+        (ap (λ (x : List ℕ). let s = ren f (sectionOf w is) in runWord (runOf s.lineStart s.success k (count_of w)) ∷ x) (ih (k + count_of w)))
 
     move_step : (b : Bool) → fixed_word w ≡ b → moved (map (withTarget f) (numbered (bump j w) ws)) (map (withJump f) (drop (count_of w) is)) ≡ map insWord (allCode (map (ren f) (keep (readSections ws (drop (count_of w) is))))) →
         moved (map (withTarget f) (numbered j (w ∷ ws))) (map (withJump f) is) ≡ map insWord (allCode (map (ren f) (keep (readSections (w ∷ ws) is))))
