@@ -4,17 +4,14 @@
 // A caller owes a cursor within the file and the limits (`Fine`), which the first cursor is and each step hands on.
 #![tactic(auto)]
 
-pub mod limits;
-pub mod refusal;
-
 ghost use Rattle.std.specs.Prelude.{◌≡◌, ◌≤◌, ◌<◌, ◌+◌, ◌*◌, ◌%◌, ◌^◌, length};
 ghost use Rattle.rules.specs.Constants.{mostBytes, mostChars, byteBits, numberBits};
 ghost use Rattle.rules.specs.Bits.{field, spelled};
 ghost use Rattle.rules.specs.Parse.{bits};
 ghost use Rattle.bits.specs.Reads.{endRes, fieldEnd, fieldRes, Fine, Takes, Passes, Skips, belowR, beginR};
 
-use limits::{BYTE_BITS, CHAR_BITS, MOST_NODES};
-use refusal::{ENDS_IN_FIELD, TOO_DEEP, TOO_MANY_NODES};
+use params::limits::{BYTE_BITS, CHAR_BITS, MOST_NODES};
+use params::refusal::{ENDS_IN_FIELD, TOO_DEEP, TOO_MANY_NODES};
 
 // Where a field ends, or that the file ends before.
 #[derive(Clone, Copy)]

@@ -7,6 +7,7 @@ ghost use Rattle.tables.specs.Lent.{countsTold, tables, answerTold};
 ghost use Rattle.clean.specs.Pass.{jumpIn};
 
 use crate::remove_unfixed_sections::remove_unfixed_sections;
+use params::refusal::{BREAKS_RULES, NEEDS_UNFIXED};
 use tables::answer::Answer;
 use tables::check::check;
 use tables::counts::Counts;
@@ -59,13 +60,13 @@ pub fn clean(
     ensures { (answerTold result, tables sections.new instructions.new numbers.now strings.now pool.now names.now) ≡ Operations.clean (tables sections.old instructions.old numbers.now strings.now pool.now names.now) (countsTold c) }
 {
     if !check(c, sections, instructions, numbers, strings, pool, names) {
-        return Answer::Refused(Answer::BREAKS_RULES);
+        return Answer::Refused(BREAKS_RULES);
     }
     if !all_fixed(sections, c.lines) {
-        return Answer::Refused(Answer::NEEDS_UNFIXED);
+        return Answer::Refused(NEEDS_UNFIXED);
     }
     if !jumps_fixed(sections, c.sections, instructions, c.instructions) {
-        return Answer::Refused(Answer::NEEDS_UNFIXED);
+        return Answer::Refused(NEEDS_UNFIXED);
     }
     let r = remove_unfixed_sections(sections, instructions, c.sections, c.instructions);
     Answer::Done(Counts {

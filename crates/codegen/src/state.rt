@@ -11,7 +11,7 @@ ghost use Rattle.rules.specs.Operators.{errorJump, getVariable};
 ghost use Rattle.codegen.specs.Does.{wordTo, DoesNone, DoesCode, DoesNums, DoesNames};
 ghost use Rattle.codegen.specs.Costs.{Spent, plus-instr, plus-number, plus-string, plus-value};
 
-use words::MARK;
+use params::limits::MARK;
 use words::instr::{Instruction, NumReg, Section, StrReg, ValReg};
 
 // Where the next instruction goes; how many registers there are, and characters in the pool; the line that errors go to.

@@ -23,6 +23,7 @@ ghost use Rattle.combine.specs.Combined.{Combined};
 
 use crate::refusals::all_ahead;
 use crate::search::mate;
+use params::refusal::{BREAKS_RULES, IS_UNFIXED, LINKS_BACK};
 use tables::answer::Answer;
 use tables::check::check;
 use tables::counts::Counts;
@@ -64,13 +65,13 @@ pub fn combine(
     ensures { (answerTold result, tables sections.new instructions.new numbers.now strings.now pool.now names.now) ≡ Operations.combine (tables sections.old instructions.old numbers.now strings.now pool.now names.now) (countsTold c) }
 {
     if !check(c, sections, instructions, numbers, strings, pool, names) {
-        return Answer::Refused(Answer::BREAKS_RULES);
+        return Answer::Refused(BREAKS_RULES);
     }
     if !all_fixed(sections, c.sections) {
-        return Answer::Refused(Answer::IS_UNFIXED);
+        return Answer::Refused(IS_UNFIXED);
     }
     if !all_ahead(sections, c.sections) {
-        return Answer::Refused(Answer::LINKS_BACK);
+        return Answer::Refused(LINKS_BACK);
     }
     let left = combine_all(sections, instructions, c.sections, c.instructions);
     Answer::Done(Counts {

@@ -16,12 +16,12 @@ ghost use Rattle.codegen.specs.Does.{lent, ◌▷◌, DoesBoth, DoesStrs, DoesTe
 ghost use Rattle.codegen.specs.Costs.{Spent, Room};
 ghost use Rattle.exprs.specs.Exprs.{LeafReady, Lowers, NumberAt, TextAt, StringRoom};
 
-use bits::limits::{CHAR_BITS, NUMBER_BITS};
 use bits::peek;
 use codegen::operators::{codegen_incdec, make_val, make_val_of_str};
 use codegen::state::{Counters, GotStr, GotVal, get_variable, index, new_num, new_strreg};
 use nodes::kinds::{IDENT, INCDEC, NUMBER};
 use nodes::layout::{KINDS, NAME, NAMES, OP, OPS, POS, POSITIONS};
+use params::limits::{CHAR_BITS, NUMBER_BITS};
 use words::text::StringWord;
 
 // 64 bits in two's complement.

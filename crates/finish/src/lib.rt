@@ -10,7 +10,7 @@ ghost use Rattle.tables.specs.Lent.{tables, answerTold};
 ghost use Rattle.program.specs.Program.{optionsTold};
 
 use passes::clean_and_combine;
-use program::options::CodegenOptions;
+use params::options::CodegenOptions;
 use tables::answer::Answer;
 use tables::counts::Counts;
 

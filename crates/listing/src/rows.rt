@@ -9,7 +9,7 @@ ghost use Rattle.listing.specs.Wrote.{Room, Wrote};
 ghost use Rattle.listing.specs.Rows.{Inside};
 
 use crate::row::{row_i, row_n, row_s, row_t, row_v};
-use words::MARK;
+use params::limits::MARK;
 use words::instr::Instruction;
 use words::section::SectionWord;
 use words::text::StringWord;

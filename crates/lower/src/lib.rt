@@ -9,10 +9,11 @@ ghost use Rattle.program.specs.Program.{optionsTold};
 ghost use Rattle.nodes.specs.Builds.{mostNodesOf};
 ghost use Rattle.lower.specs.Lower.{Given, Roomy, Assembled};
 
+use params::refusal::NO_ROOM;
 use crate::room::{estimate, holds};
 use crate::zeros::zero_numbers;
-use bits::limits::{MOST_LINES, MOST_NODES};
-use program::options::CodegenOptions;
+use params::limits::{MOST_LINES, MOST_NODES};
+use params::options::CodegenOptions;
 use program::program::codegen_from_program;
 use replace::replace_duplicates::replace_duplicates;
 use tables::answer::Answer;
@@ -121,7 +122,7 @@ fn lower_in(
     ensures { (answerTold result, tables sections.new instructions.new numbers.new strings.new pool.new names.new) ≡ Operations.lower (optionsTold options) s.now (tables sections.old instructions.old numbers.old strings.old pool.old names.old) }
 {
     if !holds(room, sections, instructions, numbers, strings, pool, names) {
-        return Answer::Refused(Answer::NO_ROOM);
+        return Answer::Refused(NO_ROOM);
     }
     Answer::Done(lower_tree(
         s,

@@ -9,9 +9,9 @@ ghost use Rattle.rules.specs.Parse.{same_name, known as knownS};
 ghost use Rattle.bits.specs.Reads.{Fine};
 ghost use Rattle.names.specs.Names.{headerBits, name_at, nextName, names_at, end_at, NamesOne, NamesAll};
 
-use bits::limits::{CHAR_BITS, FLAG_BITS, NAME_LENGTH_BITS};
-use bits::refusal::EQUAL_NAMES;
 use bits::{Cursor, Step};
+use params::limits::{CHAR_BITS, FLAG_BITS, NAME_LENGTH_BITS};
+use params::refusal::EQUAL_NAMES;
 
 // A name's flag and length together.
 const HEADER_BITS: usize = FLAG_BITS + NAME_LENGTH_BITS;

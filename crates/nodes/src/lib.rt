@@ -15,16 +15,16 @@ ghost use Rattle.nodes.specs.Width.{orOne};
 ghost use Rattle.nodes.specs.Builds.{Ready, Begun, BegunStmt, Closed, Spans, Builds, before, beforeStmt, joined, heldE, countE, held_f, countF, flagR, leafR, heldS, countS, ReadsExpr, ReadsStmt, ReadsList};
 
 use crate::layout::{LAST, NAME, OP, POS, WIDTH};
-use bits::limits::{
-    ASSIGN_BITS, ASSIGNOPS, BINOPS, EXPR_KIND_BITS, FLAG_BITS, LIST_BITS, NAME_BITS, NUMBER_BITS,
-    OPERATOR_BITS, STMT_KIND_BITS, STRING_LENGTH_BITS, UNOPS,
-};
-use bits::refusal::{UNASSIGNED, UNKNOWN_NAME};
 use bits::{Cursor, Step};
 use kinds::{
     ASSIGN, BINOP, FILE_ASSIGN, FILE_GOTO, FILE_ITE, FILE_STEP, GOTO, IDENT, INCDEC, ITE, NUMBER,
     STEP, STRING, UNOP,
 };
+use params::limits::{
+    ASSIGN_BITS, ASSIGNOPS, BINOPS, EXPR_KIND_BITS, FLAG_BITS, LIST_BITS, NAME_BITS, NUMBER_BITS,
+    OPERATOR_BITS, STMT_KIND_BITS, STRING_LENGTH_BITS, UNOPS,
+};
+use params::refusal::{UNASSIGNED, UNKNOWN_NAME};
 
 // A node's word.
 #[tactic(auto, unfolding(crate::specs::Words::word_of))]

@@ -7,12 +7,12 @@ ghost use Rattle.tables.specs.Lent.{tables};
 ghost use Rattle.listing.specs.Wrote.{Prints};
 ghost use Rattle.printed.specs.Printed.{printed, Bounded, Sized, SizedRoom};
 
-use bits::limits::{BYTE_BITS, CHAR_BITS, MOST_NODES, NAME_BITS};
-use bits::refusal::TOO_LONG;
+use params::limits::{BYTE_BITS, CHAR_BITS, MOST_NODES, NAME_BITS};
+use params::refusal::TOO_LONG;
 use finish::finish;
 use listing::listing::listing;
 use listing::row::row_r;
-use program::options::CodegenOptions;
+use params::options::CodegenOptions;
 use tables::answer::Answer;
 use tree::{SizeAnswer, Sizes};
 
@@ -30,7 +30,7 @@ const NUMBERS: usize = 1024;
 const STRINGS: usize = MOST_NODES;
 
 // As many as the bits of the longest tree file hold.
-const CHARACTERS: usize = bits::limits::MOST_BYTES * BYTE_BITS / CHAR_BITS;
+const CHARACTERS: usize = params::limits::MOST_BYTES * BYTE_BITS / CHAR_BITS;
 
 // As many as the field of their count holds.
 const NAMES: usize = (1 << NAME_BITS) - 1;

@@ -6,7 +6,7 @@ use Rattle.rules.specs.Machine.{Machine}
 use Rattle.rules.specs.Tables.{Tables, Counts, encode, countsOf}
 use Rattle.rules.specs.Lowered.{Options}
 use Rattle.tree.specs.Files.{HoldsTree, Placed, widths}
-use Rattle.program.specs.declared.options.CodegenOptions.{CodegenOptions}
+use Rattle.params.specs.declared.options.CodegenOptions.{CodegenOptions}
 use Rattle.program.specs.Script.{deepest}
 
 abbrev pub optionsTold : CodegenOptions → Options

@@ -3,5 +3,4 @@
 
 pub mod lines;
 pub mod name_words;
-pub mod options;
 pub mod program;

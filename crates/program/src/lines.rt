@@ -12,10 +12,10 @@ ghost use Rattle.stmts.specs.Parts.{ownCost};
 ghost use Rattle.codegen.specs.Does.{lent};
 ghost use Rattle.program.specs.Script.{ownCosts, aimedAt, HeadReady, LinesAt, LinesReady, LinesDone};
 
-use bits::limits::MOST_DEPTH;
 use codegen::state::Counters;
 use line::heads::own_cost;
 use line::line::{LineEnd, codegen_from_line};
+use params::limits::MOST_DEPTH;
 use tree::LINE_COUNTS;
 use words::instr::Section;
 

@@ -11,10 +11,9 @@ ghost use Rattle.codegen.specs.Does.{regWord};
 ghost use Rattle.program.specs.Program.{optionsTold};
 ghost use Rattle.program.specs.Names.{NamesReady};
 
-use crate::options::CodegenOptions;
-use bits::limits::{HEAD_BITS, NAME_BITS};
 use names::{after, is_global};
-use words::MARK;
+use params::limits::{HEAD_BITS, MARK, NAME_BITS};
+use params::options::CodegenOptions;
 
 // The bit at which a file's names begin: behind form, lines and names.
 const FIRST_NAME: usize = 2 * HEAD_BITS + NAME_BITS;

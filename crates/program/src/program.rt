@@ -11,8 +11,8 @@ ghost use Rattle.program.specs.Program.{optionsTold, TreeReady, Laid};
 
 use crate::lines::{codegen_from_lines, head_costs};
 use crate::name_words::{clear_names, protect_names};
-use crate::options::CodegenOptions;
 use codegen::state::Counters;
+use params::options::CodegenOptions;
 use tables::counts::Counts;
 use words::instr::Section;
 

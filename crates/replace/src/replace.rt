@@ -8,6 +8,8 @@ ghost use Rattle.tables.specs.Lent.{countsTold, tables, answerTold};
 
 use crate::additions::additions;
 use crate::replace_duplicates::replace_duplicates;
+use params::limits::MOST_COUNT;
+use params::refusal::{BREAKS_RULES, NO_ROOM};
 use tables::answer::Answer;
 use tables::check::check;
 use tables::counts::Counts;
@@ -16,7 +18,7 @@ use tables::counts::Counts;
 fn slots(n: usize, len: usize) -> bool
     ensures { result ≡ (leb n len && leb n mostCount) }
 {
-    (n <= len) & (n <= Counts::MOST)
+    (n <= len) & (n <= MOST_COUNT)
 }
 
 #[tactic(auto, using(tables::proofs::Sound::counts_kept))]
@@ -32,13 +34,13 @@ pub fn replace(
     ensures { (answerTold result, tables sections.new instructions.new numbers.new strings.new pool.now names.now) ≡ Operations.replace (tables sections.old instructions.old numbers.old strings.old pool.now names.now) (countsTold c) }
 {
     if !check(c, sections, instructions, numbers, strings, pool, names) {
-        return Answer::Refused(Answer::BREAKS_RULES);
+        return Answer::Refused(BREAKS_RULES);
     }
     let added = additions(instructions, c.instructions);
     let fits = slots(c.numbers + added.numbers, numbers.len())
         & slots(c.strings + added.strings, strings.len());
     if !fits {
-        return Answer::Refused(Answer::NO_ROOM);
+        return Answer::Refused(NO_ROOM);
     }
     let done = replace_duplicates(c, sections, instructions, numbers, strings);
     Answer::Done(Counts {

@@ -4,7 +4,7 @@
 // It has no contract but to be safe and to end; what it prints is compared.
 #![tactic(auto)]
 
-use program::options::CodegenOptions;
+use params::options::CodegenOptions;
 use recorded::{decimal, machine, part};
 use std::alloc::{AllocError, Global};
 use std::io;

@@ -6,8 +6,9 @@ ghost use Rattle.tables.specs.Lent.{tables};
 ghost use Rattle.program.specs.Program.{optionsTold};
 ghost use Rattle.sezkibalo.specs.Calls.{optionsOf, buildCall};
 
+use params::refusal::NO_ROOM;
 use crate::counts::{EIGHT, answered};
-use program::options::CodegenOptions;
+use params::options::CodegenOptions;
 use tables::answer::Answer;
 
 // Bit 0 protects the local names, bit 1 the global ones; the other bits are ignored.
@@ -37,7 +38,7 @@ pub extern "C" fn sezkibalo_lower(
     ensures { (result, counts.new, tables sections.new instrs.new numbers.new strings.new pool.new names.new) ≡ buildCall Operations.lower tree.now options counts.old (tables sections.old instrs.old numbers.old strings.old pool.old names.old) }
 {
     if counts.len() < EIGHT {
-        return Answer::NO_ROOM;
+        return NO_ROOM;
     }
     let o = options_of(options);
     let a = lower::lower(tree, o, sections, instrs, numbers, strings, pool, names);
@@ -61,7 +62,7 @@ pub extern "C" fn sezkibalo_finish(
     ensures { (result, counts.new, tables sections.new instrs.new numbers.new strings.new pool.new names.new) ≡ buildCall Operations.finish tree.now options counts.old (tables sections.old instrs.old numbers.old strings.old pool.old names.old) }
 {
     if counts.len() < EIGHT {
-        return Answer::NO_ROOM;
+        return NO_ROOM;
     }
     let o = options_of(options);
     let a = finish::finish(tree, o, sections, instrs, numbers, strings, pool, names);

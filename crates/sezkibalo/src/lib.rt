@@ -13,15 +13,16 @@ ghost use Rattle.words.specs.Runs.{span};
 ghost use Rattle.tables.specs.Lent.{tables};
 ghost use Rattle.sezkibalo.specs.Calls.{sizeCall, changeCall};
 
+use params::limits::MOST_COUNT;
+use params::refusal::NO_ROOM;
 use counts::{EIGHT, SIX, answered, put_sizes, read_counts};
 use tables::answer::Answer;
-use tables::counts::Counts;
 use tables::text::text_place;
 use tree::SizeAnswer;
 use words::instr::StrReg;
 
 // Registers are below this.
-const REGISTERS: u64 = Counts::MOST as u64;
+const REGISTERS: u64 = MOST_COUNT as u64;
 
 // The largest start that a spot can say.
 const MOST_START: usize = 4294967295;
@@ -44,7 +45,7 @@ pub extern "C" fn sezkibalo_size(tree: &[u8], counts: &mut [u64]) -> u64
     ensures { (result, counts.new) ≡ sizeCall tree.now counts.old }
 {
     if counts.len() < SIX {
-        return Answer::NO_ROOM;
+        return NO_ROOM;
     }
     let a = tree::size(tree);
     match a {
@@ -71,7 +72,7 @@ pub extern "C" fn sezkibalo_replace(
     ensures { (result, counts.new, tables sections.new instructions.new numbers.new strings.new pool.now names.now) ≡ changeCall Operations.replace counts.old (tables sections.old instructions.old numbers.old strings.old pool.now names.now) }
 {
     if counts.len() < EIGHT {
-        return Answer::NO_ROOM;
+        return NO_ROOM;
     }
     let c = read_counts(counts);
     let a = replace::replace::replace(c, sections, instructions, numbers, strings, pool, names);
@@ -93,7 +94,7 @@ pub extern "C" fn sezkibalo_clean(
     ensures { (result, counts.new, tables sections.new instructions.new numbers.new strings.new pool.now names.now) ≡ changeCall Operations.clean counts.old (tables sections.old instructions.old numbers.old strings.old pool.now names.now) }
 {
     if counts.len() < EIGHT {
-        return Answer::NO_ROOM;
+        return NO_ROOM;
     }
     let c = read_counts(counts);
     let a = clean::clean::clean(c, sections, instructions, numbers, strings, pool, names);
@@ -115,7 +116,7 @@ pub extern "C" fn sezkibalo_combine(
     ensures { (result, counts.new, tables sections.new instructions.new numbers.new strings.new pool.now names.now) ≡ changeCall Operations.combine counts.old (tables sections.old instructions.old numbers.old strings.old pool.now names.now) }
 {
     if counts.len() < EIGHT {
-        return Answer::NO_ROOM;
+        return NO_ROOM;
     }
     let c = read_counts(counts);
     let a = combine::combine(c, sections, instructions, numbers, strings, pool, names);

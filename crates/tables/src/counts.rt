@@ -4,7 +4,7 @@ ghost use Rattle.rules.specs.Constants.{mostCount};
 ghost use Rattle.rules.specs.Tables.{countsFit};
 ghost use Rattle.tables.specs.Lent.{countsTold, tables};
 
-use bits::limits::MOST_LINES;
+use params::limits::{MOST_COUNT, MOST_LINES};
 
 // Lines, how much of each lent table is in use, and the value registers.
 #[derive(Clone, Copy)]
@@ -19,15 +19,11 @@ pub struct Counts {
     pub names: usize,
 }
 
-impl Counts {
-    pub const MOST: usize = 65535;
-}
-
 // A count is at most 65,535 and no more than the lent table holds.
 fn count_fits(n: usize, len: usize) -> bool
     ensures { result ≡ (leb n mostCount && leb n len) }
 {
-    (n <= Counts::MOST) & (n <= len)
+    (n <= MOST_COUNT) & (n <= len)
 }
 
 #[tactic(auto, unfolding(rules::specs::Tables::countsFit, rules::specs::Tables::countFits))]
@@ -45,7 +41,7 @@ pub fn counts_fit(
     (0 < c.lines)
         & (c.lines <= MOST_LINES)
         & (c.lines <= c.sections)
-        & (c.values <= Counts::MOST)
+        & (c.values <= MOST_COUNT)
         & count_fits(c.sections, sections.len())
         & count_fits(c.instructions, instructions.len())
         & count_fits(c.numbers, numbers.len())

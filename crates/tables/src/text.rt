@@ -3,7 +3,7 @@ ghost use Rattle.std.specs.Prelude.{◌≡◌, ◌+◌};
 ghost use Rattle.rules.specs.Operations as Operations;
 ghost use Rattle.tables.specs.Lent.{placeTold};
 
-use crate::counts::Counts;
+use params::limits::MOST_COUNT;
 use words::instr::StrReg;
 use words::text::StringWord;
 
@@ -24,7 +24,7 @@ pub fn text_place(strings: &[u32], pool: &[u8], register: StrReg) -> Place
         length: 0,
     };
     let at = register.0 as usize;
-    if at >= Counts::MOST {
+    if at >= MOST_COUNT {
         return end;
     }
     if at >= strings.len() {

@@ -8,7 +8,7 @@ ghost use Rattle.tables.specs.Lent.{countsTold};
 ghost use Rattle.tables.specs.Rules.{sectionFits};
 
 use crate::counts::Counts;
-use words::MARK;
+use params::limits::MARK;
 use words::instr::{Fields, Instruction, Kind};
 use words::section::{SectionOrLine, SectionWord};
 use words::text::StringWord;

@@ -11,12 +11,12 @@ ghost use Rattle.bits.specs.Reads.{Fine};
 ghost use Rattle.nodes.specs.Builds.{Ready, ReadsList, mostNodesOf};
 ghost use Rattle.tree.specs.Files.{LinesRead, EndRead, HeadRead, FileRead, TreeRead, sizeRes};
 
-use bits::limits::{
+use bits::{Cursor, Step};
+use params::limits::{
     BYTE_BITS, FORM, HEAD_BITS, LIST_BITS, MOST_BYTES, MOST_DEPTH, MOST_LINES, MOST_NODES,
     NAME_BITS,
 };
-use bits::refusal::{LEFT_OVER, OTHER_FORM, TOO_LONG, ZERO_LINES};
-use bits::{Cursor, Step};
+use params::refusal::{LEFT_OVER, OTHER_FORM, TOO_LONG, ZERO_LINES};
 
 // Lines are counted below this.
 const HEAD_VALUES: u64 = 1 << HEAD_BITS;

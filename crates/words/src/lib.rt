@@ -7,6 +7,3 @@ pub mod instr;
 pub mod number;
 pub mod section;
 pub mod text;
-
-// The target of an unfixed section, and the word of a name without a register: no section and no register has this number.
-pub const MARK: u16 = 65535;

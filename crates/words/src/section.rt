@@ -8,8 +8,8 @@ ghost use Rattle.rules.specs.Word.{runWord, wordRun, runSpare};
 ghost use Rattle.rules.specs.Tables as Tables;
 ghost use Rattle.words.specs.Runs as Runs;
 
-use crate::MARK;
 use crate::instr::{NumReg, Section};
+use params::limits::MARK;
 
 // A successor: not fixed yet, a section, or the line that a number register says. Section 65,535 is no section: its word is that of Unfixed.
 #[derive(Clone, Copy)]

@@ -1,4 +1,4 @@
-// The numbers by which a file is refused, with the meaning that document 01 gives them.
+// The numbers of refusals: of a tree file, of lent tables, and of a machine in them.
 
 // The form is another.
 pub const OTHER_FORM: u64 = 1;
@@ -29,3 +29,18 @@ pub const LEFT_OVER: u64 = 9;
 
 // The file is longer than is read.
 pub const TOO_LONG: u64 = 10;
+
+// A lent table is shorter than its estimate; for replace, no slot for an added number or string.
+pub const NO_ROOM: u64 = 11;
+
+// Words break the rules of a machine.
+pub const BREAKS_RULES: u64 = 12;
+
+// Clean: a section below L is unfixed, or a jump targets an unfixed section.
+pub const NEEDS_UNFIXED: u64 = 13;
+
+// Combine: a section is unfixed.
+pub const IS_UNFIXED: u64 = 14;
+
+// Combine: a successor that is no line start lies below its section.
+pub const LINKS_BACK: u64 = 15;

@@ -1,4 +1,4 @@
-// The limits of document 01 and the widths of the tree form's fields, each under one name.
+// The limits, and the widths of the tree form's fields.
 
 // The bytes of a file.
 pub const MOST_BYTES: usize = 32768;
@@ -62,3 +62,9 @@ pub const UNOPS: u64 = 11;
 
 // How many operators of an Assign are assigned.
 pub const ASSIGNOPS: u64 = 7;
+
+// A count of a machine.
+pub const MOST_COUNT: usize = 65535;
+
+// The target of an unfixed section, and the word of a name without a register: no section and no register has this number.
+pub const MARK: u16 = 65535;
