@@ -55,13 +55,13 @@ same-sections m = replaced-length (length m.pool) (record { numbers = m.numbers;
 
 -- so the sections and numbers before it keep within the estimates
 module _ (o : Options) (x : Tree) where
-  pub sections-within : (countsOf (assemble o x)).sections ≤ (estimate (size_of x)).sections
+  pub sections_within : (countsOf (assemble o x)).sections ≤ (estimate (size_of x)).sections
   unfolding lowered
-  sections-within = omega (arith, same-sections (assemble o x), (estimated o x).sections)
+  sections_within = omega (arith, same-sections (assemble o x), (estimated o x).sections)
 
-  pub numbers-within : (countsOf (assemble o x)).numbers ≤ (estimate (size_of x)).numbers
+  pub numbers_within : (countsOf (assemble o x)).numbers ≤ (estimate (size_of x)).numbers
   unfolding countsOf
-  numbers-within = omega (arith, ap length (numbers_stay o x), (estimated o x).numbers)
+  numbers_within = omega (arith, ap length (numbers_stay o x), (estimated o x).numbers)
 
 -- ---- the tables afterwards
 
@@ -108,13 +108,13 @@ module _ (o : Options) (s : List ℕ) (x : Tree) (parses : parse s ≡ ok x) (l 
     kept : WithinEstimate told u
     kept = rw (← lowered-counts, u-is) (estimated o x)
 
-    pub lower-done : holds l u ≡ true → (ss' is' : List ℕ) (ns' : List ℤ) →
+    pub lower_done : holds l u ≡ true → (ss' is' : List ℕ) (ns' : List ℤ) →
         ss' ≡ take c.sections ss ++ (replicate (u.sections - c.sections) 0 ++ drop u.sections ss) →
         is' ≡ take c.instrs is ++ (replicate (u.instrs - c.instrs) 0 ++ drop u.instrs is) →
         ns' ≡ take c.numbers ns ++ (replicate (u.numbers - c.numbers) (pos 0) ++ drop u.numbers ns) →
         (ok told, record { sections = ss'; instrs = is'; numbers = ns'; strings = ts; pool = l'.pool; names = l'.names }) ≡ lower o s l
     unfolding write
-    lower-done room ss' is' ns' p q v =
+    lower_done room ss' is' ns' p q v =
         let m = encode (assemble o x) in
         let y = encode (lowered o x) in
         let a = laid-long in

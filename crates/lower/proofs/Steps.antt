@@ -1,5 +1,5 @@
 -- What each step of lower asks follows from what the step before it gives, and lower of rules at each refusal. Assumes nothing.
-use mathlib.Core.Path.{◌≡◌, refl, sym, ap, ◌∙◌, subst}
+use mathlib.Core.Path.{◌≡◌, sym, ap, ◌∙◌, subst}
 use mathlib.Core.Bool.{true, false, ◌&&◌}
 use mathlib.Core.List.{List, [], ◌∷◌, ◌++◌, map}
 use Prim.Native.Nat.{ℕ, ◌*◌, ◌-◌, ◌≤◌}
@@ -18,7 +18,7 @@ use Rattle.rules.specs.Parse.{parse}
 use Rattle.rules.specs.Word.{insWord}
 use Rattle.rules.specs.Tables.{Tables, Counts, allCode, encode, countsOf}
 use Rattle.rules.specs.Lowered.{Options, defaults, assemble}
-use Rattle.rules.specs.Operations.{Size, size_of, estimate, holds, build, lower}
+use Rattle.rules.specs.Operations.{size_of, estimate, holds, build, lower}
 use Rattle.bounds.specs.Parsed.{parsed}
 use Rattle.bounds.specs.LimitsTree.{limits}
 use Rattle.bounds.specs.Estimate.{estimated}
@@ -80,11 +80,11 @@ rooms l u e =
 -- ---- the tree
 
 module _ {s t ls : List ℕ} {r : SizeAnswer} (h : TreeRead s t ls r) where
-  pub tree-ok : {z : Sizes} → r ≡ Sized z → Treed s t ls z
-  tree-ok e = subst (TreeAt s t ls) e h.here
+  pub tree_ok : {z : Sizes} → r ≡ Sized z → Treed s t ls z
+  tree_ok e = subst (TreeAt s t ls) e h.here
 
-  pub tree-no : {n : ℕ} → r ≡ No n → parse s ≡ refused n
-  tree-no e = subst (TreeAt s t ls) e h.here
+  pub tree_no : {n : ℕ} → r ≡ No n → parse s ≡ refused n
+  tree_no e = subst (TreeAt s t ls) e h.here
 
 module _ {s t ls : List ℕ} {z : Sizes} (h : Treed s t ls z) where
   pub limited : Limited (sized z)
@@ -110,9 +110,9 @@ module _ {s t ls : List ℕ} {z : Sizes} (h : Treed s t ls z) where
       }
 
 module _ (s t ls : List ℕ) (u : Counts) (l : Tables) (h : Roomy s t ls u l) where
-  pub tree-ready : (i : ℕ) → i ≡ u.instrs → TreeReady s t ls u.lines u.names i (length l.numbers) (length l.strings) (length l.pool) (length l.names) (length l.sections)
+  pub tree_ready : (i : ℕ) → i ≡ u.instrs → TreeReady s t ls u.lines u.names i (length l.numbers) (length l.strings) (length l.pool) (length l.names) (length l.sections)
   unfolding estimate size_of countsOf
-  tree-ready i i-is =
+  tree_ready i i-is =
       let g = h.given in
       let x = g.tree in
       let k = limits s x g.parses in
@@ -196,30 +196,30 @@ module _ {o : Options} {s : List ℕ} {u : Counts} {l l' : Tables} {c : Counts} 
   unfolding estimate size_of
   few = omega (arith, a.within, ap (λ (v : Counts). v.instrs) a.estimates, (limits s a.tree a.parses).most-nodes)
 
-  pub replace-ready : Ready l'.sections l'.instrs l'.numbers l'.strings c.sections c.instrs c.numbers c.strings c.pool
-  replace-ready = Before.ready o s a.tree a.parses l l' c a.laid few
+  pub replace_ready : Ready l'.sections l'.instrs l'.numbers l'.strings c.sections c.instrs c.numbers c.strings c.pool
+  replace_ready = Before.ready o s a.tree a.parses l l' c a.laid few
 
-  pub sections-within : c.sections ≤ u.sections
-  sections-within = rw (a.laid.counts, a.estimates) (Done.sections-within o a.tree)
+  pub sections_within : c.sections ≤ u.sections
+  sections_within = rw (a.laid.counts, a.estimates) (Done.sections_within o a.tree)
 
-  pub numbers-within : c.numbers ≤ u.numbers
-  numbers-within = rw (a.laid.counts, a.estimates) (Done.numbers-within o a.tree)
+  pub numbers_within : c.numbers ≤ u.numbers
+  numbers_within = rw (a.laid.counts, a.estimates) (Done.numbers_within o a.tree)
 
-  pub lower-done : (ss is : List ℕ) (ns : List ℤ) (ts : List ℕ) (b k r : ℕ) → Rewrote l'.sections l'.instrs l'.numbers l'.strings ss is ns ts c.sections c.instrs c.numbers c.strings c.pool b k r →
+  pub lower_done : (ss is : List ℕ) (ns : List ℤ) (ts : List ℕ) (b k r : ℕ) → Rewrote l'.sections l'.instrs l'.numbers l'.strings ss is ns ts c.sections c.instrs c.numbers c.strings c.pool b k r →
       holds l u ≡ true → (ss' is' : List ℕ) (ns' : List ℤ) →
       ss' ≡ take c.sections ss ++ (replicate (u.sections - c.sections) 0 ++ drop u.sections ss) →
       is' ≡ take c.instrs is ++ (replicate (u.instrs - c.instrs) 0 ++ drop u.instrs is) →
       ns' ≡ take c.numbers ns ++ (replicate (u.numbers - c.numbers) (pos 0) ++ drop u.numbers ns) →
       (ok (record { lines = c.lines; sections = c.sections; instrs = b; numbers = k; strings = r; pool = c.pool; names = c.names; values = c.values }), record { sections = ss'; instrs = is'; numbers = ns'; strings = ts; pool = l'.pool; names = l'.names }) ≡ lower o s l
-  lower-done ss is ns ts b k r w room ss' is' ns' p q v = Done.lower-done o s a.tree a.parses l l' c a.laid few ss is ns ts b k r w u a.estimates a.within room ss' is' ns' p q v
+  lower_done ss is ns ts b k r w room ss' is' ns' p q v = Done.lower_done o s a.tree a.parses l l' c a.laid few ss is ns ts b k r w u a.estimates a.within room ss' is' ns' p q v
 
 -- ---- refusals
 
 module _ (o : Options) (s : List ℕ) (l : Tables) where
-  pub lower-no : (n : ℕ) → parse s ≡ refused n → (refused n, l) ≡ lower o s l
+  pub lower_no : (n : ℕ) → parse s ≡ refused n → (refused n, l) ≡ lower o s l
   unfolding lower build
-  lower-no n e = rw (e, lower, build)
+  lower_no n e = rw (e, lower, build)
 
-  pub lower-11 : (t ls : List ℕ) (u : Counts) → Given s t ls u → holds l u ≡ false → (refused Refusal.noRoom, l) ≡ lower o s l
+  pub lower_11 : (t ls : List ℕ) (u : Counts) → Given s t ls u → holds l u ≡ false → (refused Refusal.noRoom, l) ≡ lower o s l
   unfolding lower build
-  lower-11 t ls u g e = let d = rw g.estimates at e in rw (g.parses, d, lower, build)
+  lower_11 t ls u g e = let d = rw g.estimates at e in rw (g.parses, d, lower, build)

@@ -1,6 +1,8 @@
 // A tree file lowered into lent tables: refused as size refuses it, then 11 where a lent table is shorter than its estimate; zeros from the
 // final counts up to the estimates, and nothing beyond. The answer and every lent word afterwards are shown equal to `lower` of `rules`.
 // Assumes nothing; the steps ask for the tree in tables and for room.
+#![tactic(auto)]
+
 ghost use Rattle.std.specs.Prelude.{◌≡◌, ◌≤◌, length};
 ghost use Rattle.rules.specs.Bits.{ok};
 ghost use Rattle.rules.specs.Operations as Operations;
@@ -25,6 +27,7 @@ pub mod room;
 pub mod zeros;
 
 // The machine before replacement. Of the instructions it is lent what it may need.
+#[tactic(auto, using(crate::proofs::Steps::rooms))]
 fn assemble(
     s: &[u8],
     nodes: &[u64],
@@ -59,6 +62,7 @@ fn assemble(
 }
 
 // The machine with its duplicates replaced, and zeros up to the estimates: strings, characters and names are as many as estimated.
+#[tactic(auto, using(crate::proofs::Steps::rooms))]
 fn lower_tree(
     s: &[u8],
     nodes: &[u64],
@@ -140,6 +144,7 @@ fn lower_in(
 }
 
 // The tree is read into a lent node table.
+#[tactic(auto, using(crate::proofs::Steps::tree_ok, crate::proofs::Steps::tree_no, crate::proofs::Steps::limited, crate::proofs::Steps::given, crate::proofs::Steps::lower_no))]
 fn lower_by(
     s: &[u8],
     nodes: &mut [u64],

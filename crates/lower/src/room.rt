@@ -16,6 +16,7 @@ const INSTRUCTIONS_A_NODE: usize = 9;
 
 const NUMBERS_A_NODE: usize = 2;
 
+#[tactic(auto, unfolding(rules::specs::Operations::estimate))]
 pub fn estimate(z: Sizes) -> Counts
     requires { Limited (sized z) }
     ensures { countsTold result ≡ Operations.estimate (sized z) }
@@ -34,6 +35,7 @@ pub fn estimate(z: Sizes) -> Counts
 }
 
 // Does each lent table hold its estimate?
+#[tactic(auto, unfolding(rules::specs::Operations::holds))]
 pub fn holds(
     c: Counts,
     sections: &[u64],

@@ -1,0 +1,13 @@
+-- Zeroing the numbers from i on gives the wanted table.
+use Rattle.std.proofs.Common.{◌≡◌, ◌++◌, ◌-◌, ◌≤◌, take, drop, replicate, pos}
+use Rattle.lower.proofs.zeros.zero_numbers.Given as goal
+
+abbrev pub invariant-loop-i : goal.invariant-loop-i
+invariant-loop-i l = record {
+  begun : l.from ≤ l.i;
+  within : l.i ≤ l.to;
+  rest : take l.i l.t ++ (replicate (l.to - l.i) (pos 0) ++ drop l.to l.t) ≡ take l.from l.fn.t ++ (replicate (l.to - l.from) (pos 0) ++ drop l.to l.fn.t);
+}
+
+abbrev pub decreases-loop-i : goal.decreases-loop-i
+decreases-loop-i l = l.to - l.i
