@@ -18,25 +18,12 @@ use Rattle.rules.specs.Lowered.{Options, lowered, finished}
 use Rattle.rules.specs.Operations.{size_of, estimate, holds, put, write, build, lower, finish}
 use Rattle.bounds.specs.Parsed.{refused≢ok}
 use Rattle.walks.specs.Theorems.{lowered-estimated}
-use Rattle.tables.specs.declared.counts.Counts.{Counts as Lent}
-use Rattle.tables.specs.declared.answer.Answer.{Answer}
-use Rattle.tables.specs.declared.answer.Answer.TheVariants.{Done, Refused}
-use Rattle.tables.specs.Lent.{countsTold, answerTold}
 use Rattle.tables.specs.Runs.{held}
 use Rattle.tables.proofs.Read.{words-length}
 use Rattle.combine.proofs.Loop.{put-twice}
 use Rattle.finish.specs.Passes.{Lowered, finishSections, Finished}
 use Rattle.machines.specs.Back.{put-begins}
 use Rattle.finish.proofs.Lowered.{held-is}
-
--- ---- an answer by what it is found to be
-
-module _ (a : Answer) (t : Tables) (z : Res Counts × Tables) (e : (answerTold a, t) ≡ z) where
-  pub told-refused : (n : ℕ) → a ≡ Refused n → (refused n, t) ≡ z
-  told-refused n h = ap (λ (x : Answer). (answerTold x, t)) (sym h) ∙ e
-
-  pub told-done : (d : Lent) → a ≡ Done d → (ok (countsTold d), t) ≡ z
-  told-done d h = ap (λ (x : Answer). (answerTold x, t)) (sym h) ∙ e
 
 -- counts and tables with other sections and instructions
 abbrev countsWith : Counts → ℕ → ℕ → Counts

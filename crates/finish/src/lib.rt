@@ -2,6 +2,8 @@
 // `finish` of `rules`; specs/Demand3 says of these words what demand 3 asks. Assumes nothing.
 //
 // Nothing is checked between the steps: that clean and combine would not refuse what they are given is proved.
+#![tactic(auto)]
+
 pub mod passes;
 
 ghost use Rattle.std.specs.Prelude.{◌≡◌};
