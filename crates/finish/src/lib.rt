@@ -11,8 +11,8 @@ ghost use Rattle.rules.specs.Operations as Operations;
 ghost use Rattle.tables.specs.Lent.{tables, answerTold};
 ghost use Rattle.program.specs.Program.{optionsTold};
 
-use passes::clean_and_combine;
 use params::options::CodegenOptions;
+use passes::clean_and_combine;
 use tables::answer::Answer;
 use tables::counts::Counts;
 

@@ -116,7 +116,7 @@ lists p s t t' u e o w y l =
     let c = (sound t' u h).counts in
     let k = few-characters p x s (its p s t t' u e).parsed in
     let are = ap (λ (z : Machine). z.strings) (one-machine t' u h _ m) ∙ spans-are p x in
-    let b = listing-length t' u h (its-texts p x) are (length-spans p x 0 (its-texts p x)) (omega arith) (omega (arith, l.names, y.names, c.names)) in
+    let b = listing-length t' u h (its-texts p x) are (length-spans 0 (its-texts p x)) (omega arith) (omega (arith, l.names, y.names, c.names)) in
     let few : length (listing (machine_of t' u)) ≤ length o = omega (arith, l.sections, l.instrs, l.numbers, l.strings, l.names, y.sections, y.instrs, y.numbers, y.strings, y.names, c.sections, c.instrs, c.numbers, c.strings, c.names) in
     record { machine = h; room = λ n d. subst (λ (z : Machine). length (listing z) ≤ length o) (one-machine t' u h n d) few }
 

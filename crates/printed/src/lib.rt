@@ -7,12 +7,12 @@ ghost use Rattle.tables.specs.Lent.{tables};
 ghost use Rattle.listing.specs.Wrote.{Prints};
 ghost use Rattle.printed.specs.Printed.{printed, Bounded, Sized, SizedRoom};
 
-use params::limits::{BYTE_BITS, CHAR_BITS, MOST_NODES, NAME_BITS};
-use params::refusal::TOO_LONG;
 use finish::finish;
 use listing::listing::listing;
 use listing::row::row_r;
+use params::limits::{BYTE_BITS, CHAR_BITS, MOST_NODES, NAME_BITS};
 use params::options::CodegenOptions;
+use params::refusal::TOO_LONG;
 use tables::answer::Answer;
 use tree::{SizeAnswer, Sizes};
 
