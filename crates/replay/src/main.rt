@@ -43,9 +43,27 @@ fn build(
     names: &mut [u16],
 ) -> Answer {
     if finished {
-        return finish::finish(file, options, sections, instructions, numbers, strings, pool, names);
+        return finish::finish(
+            file,
+            options,
+            sections,
+            instructions,
+            numbers,
+            strings,
+            pool,
+            names,
+        );
     }
-    lower::lower(file, options, sections, instructions, numbers, strings, pool, names)
+    lower::lower(
+        file,
+        options,
+        sections,
+        instructions,
+        numbers,
+        strings,
+        pool,
+        names,
+    )
 }
 
 // Does the machine that is built agree with its row?
@@ -73,7 +91,17 @@ fn machine_agrees(
         &mut pool,
         &mut names,
     );
-    machine::answered(alloc, row, answer, &sections, &instructions, &numbers, &strings, &pool, &names)
+    machine::answered(
+        alloc,
+        row,
+        answer,
+        &sections,
+        &instructions,
+        &numbers,
+        &strings,
+        &pool,
+        &names,
+    )
 }
 
 // The digit of the options: bit 0 protects locals, bit 1 globals.
@@ -87,7 +115,11 @@ fn options_of(digit: u64) -> CodegenOptions {
 // The row of a part; a refusal stands for all of them.
 fn row_of(line: &str, k: usize) -> &str {
     let sizes = part(line, 3, ';');
-    if sizes.starts_with('R') { sizes } else { part(line, k, ';') }
+    if sizes.starts_with('R') {
+        sizes
+    } else {
+        part(line, k, ';')
+    }
 }
 
 // Of the sizes, lowered machines and finished ones of some lines, how many agree.

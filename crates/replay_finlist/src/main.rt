@@ -22,7 +22,12 @@ fn agrees(alloc: Global, line: &str) -> Result<bool, AllocError> {
     let file = recorded::bytes(alloc, part(line, 0, ';'))?;
     let mut out = space();
     let n = printed::finlist(&file, &mut out);
-    Ok(out[..n].iter().map(recorded_as).eq(part(line, 1, ';').bytes()))
+    Ok(
+        out[..n]
+            .iter()
+            .map(recorded_as)
+            .eq(part(line, 1, ';').bytes()),
+    )
 }
 
 fn main(rt: HostRuntime) -> io::Result<()> {

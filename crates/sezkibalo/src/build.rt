@@ -6,9 +6,9 @@ ghost use Rattle.tables.specs.Lent.{tables};
 ghost use Rattle.program.specs.Program.{optionsTold};
 ghost use Rattle.sezkibalo.specs.Calls.{optionsOf, buildCall};
 
-use params::refusal::NO_ROOM;
 use crate::counts::{EIGHT, answered};
 use params::options::CodegenOptions;
+use params::refusal::NO_ROOM;
 use tables::answer::Answer;
 
 // Bit 0 protects the local names, bit 1 the global ones; the other bits are ignored.

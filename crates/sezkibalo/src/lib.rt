@@ -13,9 +13,9 @@ ghost use Rattle.words.specs.Runs.{span};
 ghost use Rattle.tables.specs.Lent.{tables};
 ghost use Rattle.sezkibalo.specs.Calls.{sizeCall, changeCall};
 
+use counts::{EIGHT, SIX, answered, put_sizes, read_counts};
 use params::limits::MOST_COUNT;
 use params::refusal::NO_ROOM;
-use counts::{EIGHT, SIX, answered, put_sizes, read_counts};
 use tables::answer::Answer;
 use tables::text::text_place;
 use tree::SizeAnswer;
