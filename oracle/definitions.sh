@@ -16,12 +16,12 @@ oracle=$here/target/release/oracle
 
 scratch=$(mktemp -d)
 trap 'rm -rf "$scratch"' EXIT
-specs=$scratch/crates/against/specs
-mkdir -p "$specs" "$scratch/crates/against/src"
-cp -r "$rules" "$scratch/crates/rules"
-rm -rf "$scratch/crates/rules/must-fail"
+against=$scratch/crates/against
+specs=$against/specs
+mkdir -p "$specs" "$against/src" "$scratch/crates/rules"
+cp -r "$rules/src" "$rules/specs" "$scratch/crates/rules"
 printf 'rules:\nagainst: rules\n' > "$scratch/crates.txt"
-echo '// Theorems only: see specs/.' > "$scratch/crates/against/src/lib.rt"
+echo '// Theorems only: see specs/.' > "$against/src/lib.rt"
 
 for count in "${counts[@]}"; do
     read -r kind number <<< "$count"
@@ -36,7 +36,7 @@ total=$(awk '{ n += $NF } END { print n }' "$scratch/summary")
 start=$(date +%s)
 cd "$scratch"
 status=0
-rt check > out 2>&1 || status=$?
+(cd "$against" && rt check) > log 2>&1 || status=$?
 seconds=$(($(date +%s) - start))
 if [ "$status" = 0 ]; then
     cat summary
@@ -45,13 +45,13 @@ if [ "$status" = 0 ]; then
 fi
 
 # each refused theorem with the call it states, which stands three lines above its proof
-grep -oE 'specs/[A-Za-z]+[0-9]+\.antt:[0-9]+:[0-9]+: error: `t[0-9]+`' target/log/against.out 2> /dev/null | sort -u > refused || true
+grep -oE '^\./specs/[A-Za-z]+[0-9]+\.antt:[0-9]+:[0-9]+: error: `t[0-9]+`' log | sort -u > refused || true
 while IFS=: read -r file at _ _ name; do
-    echo "refused: ${file#specs/}$name $(sed -n "$((at - 3))p" "crates/against/$file" | cut -c 1-1000)"
+    echo "refused: ${file#./specs/}$name $(sed -n "$((at - 3))p" "$against/$file" | cut -c 1-1000)"
 done < refused
 number=$(wc -l < refused)
 if [ "$number" = 0 ]; then
-    tail -n 40 out | cut -c 1-1000
+    tail -n 40 log | cut -c 1-1000
     echo "the definitions are not proved, or their names have changed: see oracle/src/theorems/names.rs"
 else
     echo "$number of $total theorems refused, seed $seed, $seconds seconds"

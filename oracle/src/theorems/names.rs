@@ -13,31 +13,28 @@ pub fn uses(kind: &str) -> String {
 }
 
 const USES: &str = "\
-use mathlib.Core.Path.{_≡_, refl}
-use mathlib.Core.Bool.{true, false}
-use mathlib.Core.List.{[], _∷_}
-use lib.IntN.{pos, negsuc}
+use Rattle.std.specs.Prelude.{◌≡◌, refl, true, false, [], ◌∷◌, pos, negsuc}
 ";
 
 const CALL_USES: &str = "\
-use lib.ListN.{replicate}
-use Rattle·rules.specs.Bits.{refused, ok}
-use Rattle·rules.specs.Operations.{size, lower, finish, replace, clean, combine, textSpan}
-use Rattle·rules.specs.Listing.{finlist}
-use Rattle·against·specs.specs.Words.{sizes, counts, tables, options, span}
+use Rattle.std.specs.Prelude.{replicate}
+use Rattle.rules.specs.Bits.{refused, ok}
+use Rattle.rules.specs.Operations.{size, lower, finish, replace, clean, combine, textSpan}
+use Rattle.rules.specs.Listing.{finlist}
+use Rattle.against.specs.Words.{sizes, counts, tables, options, span}
 ";
 
 const INSTR_USES: &str = "\
-use mathlib.Core.List.{map}
-use mathlib.Core.Option.{none, some}
-use Rattle·rules.specs.Instr.{unused, num, str, val, place}
-use Rattle·rules.specs.Instr.{kinds, reads, modifies, canRuntimeErr, getSection, removeReg, removeSection, checkedRemoveSection}
-use Rattle·rules.specs.Replace.{rules, lookup, replaceIns}
-use Rattle·against·specs.specs.Words.{span, regs, ins}
+use Rattle.std.specs.Prelude.{map}
+use Rattle.std.proofs.Math.Option.{none, some}
+use Rattle.rules.specs.Instr.{unused, num, str, val, place}
+use Rattle.rules.specs.Instr.{kinds, reads, modifies, canRuntimeErr, getSection, removeReg, removeSection, checkedRemoveSection}
+use Rattle.rules.specs.Replace.{rules, lookup, replaceIns}
+use Rattle.against.specs.Words.{span, regs, ins}
 ";
 
 const WALK_USES: &str = "\
-use Rattle·against·specs.specs.Words.{options, ins, same, stopsAtJump, stopsAtGoto, fallsSilent, bothWalks, bothFirst}
+use Rattle.against.specs.Words.{options, ins, same, stopsAtJump, stopsAtGoto, fallsSilent, bothWalks, bothFirst}
 ";
 
 pub const WORDS_MODULE: &str = "Words";
@@ -45,21 +42,17 @@ pub const WORDS_MODULE: &str = "Words";
 /// The module that makes the definitions' records of plain arguments, in the judge's order.
 pub const WORDS: &str = "\
 -- The records of the definitions, made of plain arguments.
-use mathlib.Core.Bool.{Bool}
-use mathlib.Core.List.{List}
-use Prim.Native.Nat.{ℕ}
-use lib.IntN.{ℤ}
-use lib.ListN.{take}
-use Rattle·rules.specs.Bits.{Res, refused, ok}
-use Rattle·rules.specs.Parse.{parse}
-use Rattle·rules.specs.Word.{Span}
-use Rattle·rules.specs.Instr.{Instruction}
-use Rattle·rules.specs.Tables.{Tables, Counts}
-use Rattle·rules.specs.Replace.{Regs}
-use Rattle·rules.specs.Lowered.{Options, finished}
-use Rattle·rules.specs.Operations.{Size}
-use Rattle·rules.specs.Walk.{Trace, atJump, atGoto, ask, more, over, walk}
-use Rattle·rules.specs.Reading.{reading}
+use Rattle.std.specs.Prelude.{Bool, List, ℕ, ℤ, take}
+use Rattle.rules.specs.Bits.{Res, refused, ok}
+use Rattle.rules.specs.Parse.{parse}
+use Rattle.rules.specs.Word.{Span}
+use Rattle.rules.specs.Instr.{Instruction}
+use Rattle.rules.specs.Tables.{Tables, Counts}
+use Rattle.rules.specs.Replace.{Regs}
+use Rattle.rules.specs.Lowered.{Options, finished}
+use Rattle.rules.specs.Operations.{Size}
+use Rattle.rules.specs.Walk.{Trace, atJump, atGoto, ask, more, over, walk}
+use Rattle.rules.specs.Reading.{reading}
 
 abbrev pub options : Bool → Bool → Options
 options l g = record { locals = l; globals = g }
@@ -100,7 +93,7 @@ bothWalks o s os k = elim (parse s) [ refused n ↦ refused n | ok t ↦ ok (wal
 -- the first n instructions of each
 unfoldable pub bothFirst : ℕ → Options → List ℕ → List ℕ → ℕ → Res (List Instruction × List Instruction)
 unfolding bothWalks
-bothFirst n o s os k = elim (bothWalks o s os k) [ refused r ↦ refused r | ok (a, b) ↦ ok (take n (a .0), take n (b .0)) ]
+bothFirst n o s os k = elim (bothWalks o s os k) [ refused r ↦ refused r | ok (a, b) ↦ ok (take n a.0, take n b.0) ]
 
 -- both are x
 abbrev pub same : {X : Type 0} → X → Res (X × X)
