@@ -1,5 +1,5 @@
-//! Builds and links the static library. `rt staticlib sezkibalo` is run in the project's root where the library is missing or older than what it is
-//! made of; that proves the crates first, which takes minutes the first time. SEZKIBALO_LIB names a folder whose libsezkibalo.a is linked as it is.
+//! Builds and links the static library. `rt lib` is run in crates/sezkibalo where the library is missing or older than what it is made of; that
+//! proves the crates first, which takes minutes the first time. SEZKIBALO_LIB names a folder whose libsezkibalo.a is linked as it is.
 
 use std::env::var;
 use std::path::{Path, PathBuf};
@@ -14,11 +14,21 @@ fn changed(path: &Path) -> Option<SystemTime> {
     }
 }
 
+/// What the library is made of: the list of crates, and each crate's folders but out/, which `rt` fills.
+fn sources(root: &Path) -> Vec<PathBuf> {
+    let crates = root.join("crates").read_dir().into_iter().flatten().flatten();
+    let folders = crates.flat_map(|entry| ["src", "specs", "proofs"].map(|name| entry.path().join(name)));
+    folders
+        .filter(|folder| folder.is_dir())
+        .chain([root.join("crates.txt")])
+        .collect()
+}
+
 /// Nothing, or why the library could not be built.
-fn build(root: &Path) -> Result<(), String> {
-    match Command::new("rt").args(["staticlib", "sezkibalo"]).current_dir(root).output() {
+fn build(folder: &Path) -> Result<(), String> {
+    match Command::new("rt").arg("lib").current_dir(folder).output() {
         Ok(out) if out.status.success() => Ok(()),
-        Ok(_) => Err("`rt staticlib sezkibalo` failed: run it in the project's root to see why".into()),
+        Ok(_) => Err("`rt lib` failed: run it in crates/sezkibalo to see why".into()),
         Err(e) => Err(format!("`rt` cannot be run ({e}): name a folder with libsezkibalo.a in SEZKIBALO_LIB")),
     }
 }
@@ -27,14 +37,15 @@ fn build(root: &Path) -> Result<(), String> {
 fn built() -> Result<PathBuf, String> {
     let here = var("CARGO_MANIFEST_DIR").map_err(|e| e.to_string())?;
     let root = Path::new(&here).join("..");
-    let folder = root.join("target/staticlib");
-    let sources = [root.join("crates"), root.join("crates.txt")];
+    let own = root.join("crates/sezkibalo");
+    let folder = own.join("out");
+    let sources = sources(&root);
     for source in &sources {
         println!("cargo::rerun-if-changed={}", source.display());
     }
     let newest = sources.iter().filter_map(|source| changed(source)).max();
     if changed(&folder.join("libsezkibalo.a")) < newest {
-        build(&root)?;
+        build(&own)?;
     }
     Ok(folder)
 }

@@ -1,11 +1,11 @@
-//! Links the static library. SEZKIBALO_LIB names the folder of libsezkibalo.a, target/staticlib of the project unless given.
+//! Links the static library. SEZKIBALO_LIB names the folder of libsezkibalo.a, crates/sezkibalo/out unless given.
 
 use std::env::var;
 use std::path::Path;
 
 fn main() {
     let here = var("CARGO_MANIFEST_DIR").unwrap();
-    let usual = Path::new(&here).join("../../target/staticlib");
+    let usual = Path::new(&here).join("../../crates/sezkibalo/out");
     let folder = var("SEZKIBALO_LIB").map_or(usual, Into::into);
     println!("cargo:rustc-link-search=native={}", folder.display());
     println!("cargo:rustc-link-lib=static=sezkibalo");
