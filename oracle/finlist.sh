@@ -27,7 +27,7 @@ file=$scratch/file
 files=0
 wrong=0
 
-# A recorded line: the file in hexadecimal, `;`, what the judge prints with `/` for each line feed. The program that replays it has room for 8,193 bytes.
+# A recorded line: the file in hexadecimal, `;`, what the judge prints with `/` for each line feed. A file of more than 8,193 bytes is left out: it is refused as one of 8,193 is.
 record() {
     [ "$(stat -c %s "$file")" -le 8193 ] || return 0
     echo "$(od -An -v -tx1 "$file" | tr -d ' \n');$(tr '\n' '/' < "$scratch/judge")"
