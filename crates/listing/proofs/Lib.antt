@@ -1,5 +1,3 @@
-pub mod Writes
-pub mod Parts
 pub mod RowParts
 pub mod TableRows
 pub mod SectionRows

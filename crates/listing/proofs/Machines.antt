@@ -17,10 +17,10 @@ use Rattle.tables.specs.Runs.{total, held}
 use Rattle.tables.proofs.Sound.{no, Sound, sound}
 use Rattle.tables.proofs.Read.{all_cons, read_length, whole-total}
 use Rattle.tables.proofs.Change.{machine_of}
-use Rattle.listing.specs.Wrote.{Room, Wrote, Prints}
+use Rattle.text.specs.Wrote.{Room, Wrote, Prints}
 use Rattle.listing.specs.Rows.{countsRow, Inside}
 use Rattle.listing.specs.Listed.{Lists, Listed}
-use Rattle.listing.proofs.Writes.{Left, begin, from_start}
+use Rattle.text.proofs.Writes.{Left, begin, from_start}
 
 -- ---- a rule of all words, at one of them
 

@@ -12,7 +12,8 @@ use Rattle.rules.specs.Word.{Run, wordIns, wordRun}
 use Rattle.rules.specs.Tables.{Counts, flag, kind_of, target_of, successOf}
 use Rattle.rules.specs.Listing.{nat, row, refusal}
 use Rattle.laws.specs.Words.{run_small}
-use Rattle.listing.specs.Rows.{nums, countsRow, instrRow, sectionRow}
+use Rattle.listing.specs.Rows.{countsRow, instrRow, sectionRow}
+use Rattle.text.specs.Numbers.{nums}
 
 pub counts-row : (u : Counts) → row 77 (nums (u.lines ∷ u.sections ∷ u.numbers ∷ u.strings ∷ u.values ∷ [])) ≡ countsRow u
 unfolding countsRow nums

@@ -14,7 +14,7 @@ use Rattle.tables.specs.Runs.{count_of, total, sectionOf, held}
 use Rattle.tables.proofs.InPlace.{drop-take}
 use Rattle.tables.proofs.Read.{read-nil, read-cons, count-is}
 use Rattle.listing.specs.Rows.{sectionRow}
-use Rattle.listing.proofs.Writes.{Are}
+use Rattle.text.proofs.Writes.{Are}
 
 total-cons : (w : ℕ) (ws : List ℕ) → total (w ∷ ws) ≡ count_of w + total ws
 unfolding total

@@ -16,7 +16,7 @@ use Rattle.rules.specs.Constants.{mark}
 use Rattle.rules.specs.Word.{wordIns, wordSpan}
 use Rattle.rules.specs.Listing.{nat, int, row, rowsN, rowsT, rowsV, rowsI}
 use Rattle.listing.specs.Rows.{textRow, instrRow}
-use Rattle.listing.proofs.Writes.{Are}
+use Rattle.text.proofs.Writes.{Are}
 
 -- ---- numbers
 

@@ -4,7 +4,7 @@ use Rattle.rules.specs.Bits.{ok}
 use Rattle.rules.specs.Machine.{Machine}
 use Rattle.rules.specs.Tables.{Tables, Counts, fits, decode}
 use Rattle.rules.specs.Listing.{listing}
-use Rattle.listing.specs.Wrote.{Prints}
+use Rattle.text.specs.Wrote.{Prints}
 
 -- the words hold a machine, and there is room for its rows
 pub record Lists (t : Tables) (u : Counts) (o : List ℕ) : Type 0 where

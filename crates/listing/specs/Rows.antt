@@ -5,11 +5,6 @@ use Rattle.rules.specs.Word.{wordIns, wordRun, wordSpan}
 use Rattle.rules.specs.Tables.{Counts, flag, kind_of, target_of, successOf}
 use Rattle.rules.specs.Listing.{nat, hexText, row}
 
--- numbers, each with its blank
-unfoldable pub nums : List ℕ → List ℕ
-nums [] = []
-nums (v ∷ vs) = nat v ++ nums vs
-
 -- M of a machine's counts
 unfoldable pub countsRow : Counts → List ℕ
 countsRow u = row 77 (nat u.lines ++ nat u.sections ++ nat u.numbers ++ nat u.strings ++ nat u.values)

@@ -2,6 +2,5 @@
 #![tactic(auto)]
 
 pub mod listing;
-mod put;
 pub mod row;
 mod rows;

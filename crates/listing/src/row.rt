@@ -4,11 +4,12 @@ ghost use Rattle.std.specs.Prelude.{◌≡◌, ◌++◌};
 ghost use Rattle.rules.specs.Tables.{flag as flagS};
 ghost use Rattle.rules.specs.Listing as Listing;
 ghost use Rattle.tables.specs.Lent.{countsTold};
-ghost use Rattle.listing.specs.Wrote.{Room, Wrote};
-ghost use Rattle.listing.specs.Rows.{nums, countsRow, textRow, instrRow, sectionRow};
+ghost use Rattle.text.specs.Wrote.{Room, Wrote};
+ghost use Rattle.listing.specs.Rows.{countsRow, textRow, instrRow, sectionRow};
+ghost use Rattle.text.specs.Numbers.{nums};
 
-use crate::put::{put, put_int, put_num, put_nums, put_text};
 use tables::counts::Counts;
+use text::{put, put_int, put_num, put_nums, put_text};
 use words::instr::Instruction;
 use words::section::SectionWord;
 

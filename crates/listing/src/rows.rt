@@ -5,7 +5,7 @@ ghost use Rattle.std.proofs.Math.Seq.{slice};
 ghost use Rattle.rules.specs.Word.{wordIns, wordSpan};
 ghost use Rattle.rules.specs.Listing as Listing;
 ghost use Rattle.tables.specs.Runs.{held, total};
-ghost use Rattle.listing.specs.Wrote.{Room, Wrote};
+ghost use Rattle.text.specs.Wrote.{Room, Wrote};
 ghost use Rattle.listing.specs.Rows.{Inside};
 
 use crate::row::{row_i, row_n, row_s, row_t, row_v};

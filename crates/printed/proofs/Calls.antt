@@ -26,9 +26,9 @@ use Rattle.bounds.specs.Bounds.{small}
 use Rattle.walks.specs.Calls.{Finishes, finishes}
 use Rattle.tables.proofs.Sound.{sound}
 use Rattle.tables.proofs.Change.{machine_of}
-use Rattle.listing.specs.Wrote.{Room, Wrote, Prints}
+use Rattle.text.specs.Wrote.{Room, Wrote, Prints}
 use Rattle.listing.specs.Listed.{Lists, Listed}
-use Rattle.listing.proofs.Writes.{from_start}
+use Rattle.text.proofs.Writes.{from_start}
 use Rattle.listing.proofs.Machines.{one-machine}
 use Rattle.printed.specs.Printed.{mostCharacters, printed, Bounded}
 use Rattle.printed.proofs.Lengths.{mostPrinted, refusal_length, listing-length}

@@ -4,7 +4,7 @@
 
 ghost use Rattle.rules.specs.Listing as Listing;
 ghost use Rattle.tables.specs.Lent.{tables};
-ghost use Rattle.listing.specs.Wrote.{Prints};
+ghost use Rattle.text.specs.Wrote.{Prints};
 ghost use Rattle.printed.specs.Printed.{printed, Bounded, Sized, SizedRoom};
 
 use finish::finish;

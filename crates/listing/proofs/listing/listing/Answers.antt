@@ -2,7 +2,7 @@
 use Rattle.std.proofs.Common.{sym}
 use Rattle.std.proofs.Math.Seq.{length-take-le}
 use Rattle.tables.proofs.Sound.{sound}
-use Rattle.listing.proofs.Writes.{write, room, done}
+use Rattle.text.proofs.Writes.{write, room, done}
 use Rattle.listing.proofs.Machines.{inside, covered, starts, room_for, listed}
 use Rattle.listing.proofs.listing.listing.Goals as goal
 

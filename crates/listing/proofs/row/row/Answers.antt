@@ -1,6 +1,6 @@
 -- The letter, the fields and a line feed, one behind the other.
 use Rattle.rules.specs.Listing.{row}
-use Rattle.listing.proofs.Writes.{seq}
+use Rattle.text.proofs.Writes.{seq}
 use Rattle.listing.proofs.row.row.Goals as goal
 
 pub returns : goal.returns

@@ -1,6 +1,6 @@
 -- The row is that of the counts.
 use Rattle.tables.specs.Lent.{countsTold}
-use Rattle.listing.proofs.Writes.{as_is}
+use Rattle.text.proofs.Writes.{as_is}
 use Rattle.listing.proofs.RowParts.{counts-row}
 use Rattle.listing.proofs.row.row_m.Goals as goal
 

@@ -2,7 +2,7 @@
 use Rattle.std.proofs.Common.{w64}
 use mir.ValLaws.{to_z-of_z}
 use Rattle.rules.specs.Listing.{row}
-use Rattle.listing.proofs.Writes.{seq}
+use Rattle.text.proofs.Writes.{seq}
 use Rattle.listing.proofs.row.row_n.Goals as goal
 
 pub returns : goal.returns

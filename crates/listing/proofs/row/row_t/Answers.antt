@@ -1,7 +1,7 @@
 -- The letter, the register, the length, the text and a line feed, one behind the other.
 use Rattle.rules.specs.Listing.{row}
 use Rattle.listing.specs.Rows.{textRow}
-use Rattle.listing.proofs.Writes.{seq}
+use Rattle.text.proofs.Writes.{seq}
 use Rattle.listing.proofs.row.row_t.Goals as goal
 
 pub returns : goal.returns

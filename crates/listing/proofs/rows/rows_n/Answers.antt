@@ -1,6 +1,6 @@
 -- Each number has a row.
 use Rattle.std.proofs.Common.{arith, rules}
-use Rattle.listing.proofs.Writes.{part, write, room, done}
+use Rattle.text.proofs.Writes.{part, write, room, done}
 use Rattle.listing.proofs.TableRows.{numbers-none, numbers_more}
 use Rattle.listing.proofs.rows.rows_n.Goals as goal
 

@@ -1,6 +1,6 @@
 -- Each section has a row, and its instructions have theirs.
 use Rattle.std.proofs.Common.{arith}
-use Rattle.listing.proofs.Writes.{begin, part, write, room, done}
+use Rattle.text.proofs.Writes.{begin, part, write, room, done}
 use Rattle.listing.proofs.SectionRows.{sections-all, sections-none, sections-more, left-more}
 use Rattle.listing.proofs.rows.rows_s.Goals as goal
 

@@ -4,7 +4,7 @@ use Rattle.std.proofs.Math.Seq.{slice}
 use Rattle.rules.specs.Tables.{readSections}
 use Rattle.rules.specs.Listing as Listing
 use Rattle.tables.specs.Runs.{held, total}
-use Rattle.listing.proofs.Writes.{Left}
+use Rattle.text.proofs.Writes.{Left}
 use Rattle.listing.proofs.rows.rows_s.Given as goal
 
 abbrev pub invariant-loop-i : goal.invariant-loop-i

@@ -1,6 +1,6 @@
 -- Each text has a row.
 use Rattle.std.proofs.Common.{arith}
-use Rattle.listing.proofs.Writes.{part, write, room, done}
+use Rattle.text.proofs.Writes.{part, write, room, done}
 use Rattle.listing.proofs.TableRows.{texts-none, texts-more}
 use Rattle.listing.proofs.rows.rows_t.Goals as goal
 

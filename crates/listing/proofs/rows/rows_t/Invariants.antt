@@ -3,7 +3,7 @@ use Rattle.std.proofs.Common.{◌-◌, ◌≤◌, [], ◌∷◌, map, take}
 use Rattle.std.proofs.Math.Seq.{slice}
 use Rattle.rules.specs.Word.{wordSpan}
 use Rattle.rules.specs.Listing as Listing
-use Rattle.listing.proofs.Writes.{Left}
+use Rattle.text.proofs.Writes.{Left}
 use Rattle.listing.proofs.rows.rows_t.Given as goal
 
 abbrev pub invariant-loop-i : goal.invariant-loop-i

@@ -1,6 +1,6 @@
 -- Each name but those that are marked has a row.
 use Rattle.std.proofs.Common.{arith}
-use Rattle.listing.proofs.Writes.{part, write, room, done}
+use Rattle.text.proofs.Writes.{part, write, room, done}
 use Rattle.listing.proofs.TableRows.{names-none, names-mark, names_more}
 use Rattle.listing.proofs.rows.rows_v.Goals.{then-v, else-v}
 use Rattle.listing.proofs.rows.rows_v.Goals as goal

@@ -1,8 +1,8 @@
 -- The numbers from i on are left to write.
 use Rattle.std.proofs.Common.{◌-◌, ◌≤◌, [], ◌∷◌, length, drop}
-use Rattle.listing.specs.Rows.{nums}
-use Rattle.listing.proofs.Writes.{Left}
-use Rattle.listing.proofs.put.put_nums.Given as goal
+use Rattle.text.specs.Numbers.{nums}
+use Rattle.text.proofs.Writes.{Left}
+use Rattle.text.proofs.put_nums.Given as goal
 
 abbrev pub invariant-loop-i : goal.invariant-loop-i
 invariant-loop-i l =

@@ -1,9 +1,9 @@
 -- Each character has two digits, of which each is a part that is left.
 use Rattle.std.proofs.Common.{arith}
 use Rattle.std.proofs.Common.{refl}
-use Rattle.listing.proofs.Writes.{part, write, room, done}
-use Rattle.listing.proofs.Parts.{hex-more, hex-none}
-use Rattle.listing.proofs.put.put_hex.Goals as goal
+use Rattle.text.proofs.Writes.{part, write, room, done}
+use Rattle.text.proofs.Parts.{hex-more, hex-none}
+use Rattle.text.proofs.put_hex.Goals as goal
 
 pub put-b-requires : goal.put-b-requires
 put-b-requires c = room (part (hex-more _ _ c.loop-i-test.true c.hex_digit.ensures refl) c.loop-i.invariant.1) c.requires

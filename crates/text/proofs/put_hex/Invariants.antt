@@ -1,8 +1,8 @@
 -- The digits of the characters from i on are left to write.
 use Rattle.std.proofs.Common.{◌-◌, ◌≤◌, [], ◌∷◌, length, drop}
 use Rattle.rules.specs.Listing as Listing
-use Rattle.listing.proofs.Writes.{Left}
-use Rattle.listing.proofs.put.put_hex.Given as goal
+use Rattle.text.proofs.Writes.{Left}
+use Rattle.text.proofs.put_hex.Given as goal
 
 abbrev pub invariant-loop-i : goal.invariant-loop-i
 invariant-loop-i l =

@@ -1,7 +1,7 @@
 -- A blank, a `-` if below zero, and the digits.
-use Rattle.listing.proofs.Writes.{begin, write, room, done}
-use Rattle.listing.proofs.Parts.{int-first, neg-parts, pos-parts}
-use Rattle.listing.proofs.put.put_int.Goals as goal
+use Rattle.text.proofs.Writes.{begin, write, room, done}
+use Rattle.text.proofs.Parts.{int-first, neg-parts, pos-parts}
+use Rattle.text.proofs.put_int.Goals as goal
 
 pub put-a-requires : goal.put-a-requires
 put-a-requires c = room (begin _ _ (int-first _)) c.requires

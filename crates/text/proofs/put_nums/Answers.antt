@@ -1,8 +1,8 @@
 -- Each number is a part that is left.
 use Rattle.std.proofs.Common.{arith}
-use Rattle.listing.proofs.Writes.{part, write, room, done}
-use Rattle.listing.proofs.Parts.{nums-more, nums-none}
-use Rattle.listing.proofs.put.put_nums.Goals as goal
+use Rattle.text.proofs.Writes.{part, write, room, done}
+use Rattle.text.proofs.Parts.{nums-more, nums-none}
+use Rattle.text.proofs.put_nums.Goals as goal
 
 pub put_num-a-requires : goal.put_num-a-requires
 put_num-a-requires c = room (part (nums-more _ _ c.loop-i-test.true) c.loop-i.invariant.1) c.requires

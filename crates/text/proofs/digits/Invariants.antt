@@ -1,7 +1,7 @@
 -- The digits of x that are still to come, in front of those from k on, are those of v.
 use Rattle.std.proofs.Common.{◌≡◌, ◌≤◌, [], drop}
 use Rattle.rules.specs.Listing as Listing
-use Rattle.listing.proofs.put.digits.Given as goal
+use Rattle.text.proofs.digits.Given as goal
 
 abbrev pub invariant-loop-k : goal.invariant-loop-k
 invariant-loop-k l =

@@ -1,10 +1,12 @@
-// The parts of a row: bytes, numbers and texts, each written behind what stands in a lent slice already.
+// Text in a lent slice: bytes, decimal numbers and hexadecimal texts, each written behind what stands there already.
 //
 // Each function is shown to write what the definition of its part in `rules` says, and no other byte. It asks for just that much room.
+#![tactic(auto)]
+
 ghost use Rattle.std.specs.Prelude.{◌≡◌, [], ◌∷◌, ◌≤◌, nat_abs, length, drop};
 ghost use Rattle.rules.specs.Listing as Listing;
-ghost use Rattle.listing.specs.Wrote.{Room, Wrote};
-ghost use Rattle.listing.specs.Rows.{nums};
+ghost use Rattle.text.specs.Wrote.{Room, Wrote};
+ghost use Rattle.text.specs.Numbers.{nums};
 
 // The most digits of a number.
 const DIGITS: usize = 20;
@@ -18,7 +20,7 @@ const ZERO: u8 = 48;
 // What ten is written from.
 const LETTERS: u8 = 87;
 
-pub(crate) fn put(out: &mut [u8], at: usize, b: u8) -> usize
+pub fn put(out: &mut [u8], at: usize, b: u8) -> usize
     requires { Room out.old at (b ∷ []) }
     ensures { Wrote out.old out.new at result (b ∷ []) }
 {
@@ -26,7 +28,7 @@ pub(crate) fn put(out: &mut [u8], at: usize, b: u8) -> usize
     at + 1
 }
 
-fn put_bytes(out: &mut [u8], at: usize, s: &[u8]) -> usize
+pub fn put_bytes(out: &mut [u8], at: usize, s: &[u8]) -> usize
     requires { Room out.old at s.now }
     ensures { Wrote out.old out.new at result s.now }
 {
@@ -58,7 +60,7 @@ fn digits(d: &mut [u8], v: usize) -> usize
     k
 }
 
-fn put_digits(out: &mut [u8], at: usize, v: usize) -> usize
+pub fn put_digits(out: &mut [u8], at: usize, v: usize) -> usize
     requires { Room out.old at (Listing.digits 20 v []) }
     ensures { Wrote out.old out.new at result (Listing.digits 20 v []) }
 {
@@ -68,7 +70,7 @@ fn put_digits(out: &mut [u8], at: usize, v: usize) -> usize
 }
 
 #[tactic(auto, using(crate::proofs::Writes::seq), unfolding(rules::specs::Listing::nat))]
-pub(crate) fn put_num(out: &mut [u8], at: usize, v: usize) -> usize
+pub fn put_num(out: &mut [u8], at: usize, v: usize) -> usize
     requires { Room out.old at (Listing.nat v) }
     ensures { Wrote out.old out.new at result (Listing.nat v) }
 {
@@ -76,7 +78,7 @@ pub(crate) fn put_num(out: &mut [u8], at: usize, v: usize) -> usize
     put_digits(out, a, v)
 }
 
-pub(crate) fn put_nums(out: &mut [u8], at: usize, vs: &[usize]) -> usize
+pub fn put_nums(out: &mut [u8], at: usize, vs: &[usize]) -> usize
     requires { Room out.old at (nums vs.now) }
     ensures { Wrote out.old out.new at result (nums vs.now) }
 {
@@ -101,7 +103,7 @@ fn magnitude(z: i64) -> usize
     z as usize
 }
 
-pub(crate) fn put_int(out: &mut [u8], at: usize, z: i64) -> usize
+pub fn put_int(out: &mut [u8], at: usize, z: i64) -> usize
     requires { Room out.old at (Listing.int z) }
     ensures { Wrote out.old out.new at result (Listing.int z) }
 {
@@ -122,7 +124,7 @@ fn hex_digit(v: u8) -> u8
     if v < 10 { ZERO + v } else { LETTERS + v }
 }
 
-fn put_hex(out: &mut [u8], at: usize, s: &[u8]) -> usize
+pub fn put_hex(out: &mut [u8], at: usize, s: &[u8]) -> usize
     requires { Room out.old at (Listing.hex s.now) }
     ensures { Wrote out.old out.new at result (Listing.hex s.now) }
 {
@@ -138,7 +140,7 @@ fn put_hex(out: &mut [u8], at: usize, s: &[u8]) -> usize
 }
 
 // A text, `-` if it is empty.
-pub(crate) fn put_text(out: &mut [u8], at: usize, s: &[u8]) -> usize
+pub fn put_text(out: &mut [u8], at: usize, s: &[u8]) -> usize
     requires { Room out.old at (Listing.hexText s.now) }
     ensures { Wrote out.old out.new at result (Listing.hexText s.now) }
 {

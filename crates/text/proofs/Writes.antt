@@ -8,7 +8,7 @@ use native.Mathlib.Omega.{arith}
 use lib.ListN.{length, take, set, get_or, length-append}
 use lib.Seq.{sets, sets-eq, length-sets, take-suc}
 use Rattle.laws.specs.Stores.{sets-sets}
-use Rattle.listing.specs.Wrote.{Room, Wrote, Prints}
+use Rattle.text.specs.Wrote.{Room, Wrote, Prints}
 
 one : (o : List ℕ) (a b : ℕ) → Wrote o (set o a b) a (a + 1) (b ∷ [])
 one o a b = record { text = refl; stop = refl }

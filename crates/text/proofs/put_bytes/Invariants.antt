@@ -1,7 +1,7 @@
 -- The first i bytes are written.
 use Rattle.std.proofs.Common.{◌+◌, ◌-◌, ◌≤◌, length, take}
-use Rattle.listing.specs.Wrote.{Wrote}
-use Rattle.listing.proofs.put.put_bytes.Given as goal
+use Rattle.text.specs.Wrote.{Wrote}
+use Rattle.text.proofs.put_bytes.Given as goal
 
 abbrev pub invariant-loop-i : goal.invariant-loop-i
 invariant-loop-i l =

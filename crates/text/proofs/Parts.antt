@@ -14,8 +14,8 @@ use lib.ListN.{length, drop, set, get_or}
 use lib.Seq.{drop-cons, drop-length, get_or-set_same, drop-set-lt, lt-length-set}
 use borrow.Author.Tests.{ltb-true, lt-ltb, le-ltb}
 use Rattle.rules.specs.Listing as Listing
-use Rattle.listing.specs.Rows.{nums}
-use Rattle.listing.proofs.Writes.{Are}
+use Rattle.text.specs.Numbers.{nums}
+use Rattle.text.proofs.Writes.{Are}
 
 -- ---- a number
 

@@ -1,7 +1,7 @@
 -- A blank, and a `-` or the digits.
-use Rattle.listing.proofs.Writes.{begin, write, room, done}
-use Rattle.listing.proofs.Parts.{text-first, empty-text, text-is}
-use Rattle.listing.proofs.put.put_text.Goals as goal
+use Rattle.text.proofs.Writes.{begin, write, room, done}
+use Rattle.text.proofs.Parts.{text-first, empty-text, text-is}
+use Rattle.text.proofs.put_text.Goals as goal
 
 pub put-a-requires : goal.put-a-requires
 put-a-requires c = room (begin _ _ (text-first _)) c.requires
