@@ -11,11 +11,11 @@ ghost use Rattle.program.specs.Program.{optionsTold};
 ghost use Rattle.nodes.specs.Builds.{mostNodesOf};
 ghost use Rattle.lower.specs.Lower.{Given, Roomy, Assembled};
 
-use params::refusal::NO_ROOM;
 use crate::room::{estimate, holds};
 use crate::zeros::zero_numbers;
 use params::limits::{MOST_LINES, MOST_NODES};
 use params::options::CodegenOptions;
+use params::refusal::NO_ROOM;
 use program::program::codegen_from_program;
 use replace::replace_duplicates::replace_duplicates;
 use tables::answer::Answer;
@@ -26,42 +26,8 @@ use tree::{SMALL_BYTES, SMALL_NODES, SizeAnswer, read_tree};
 pub mod room;
 pub mod zeros;
 
-// The machine before replacement. Of the instructions it is lent what it may need.
-#[tactic(auto, using(crate::proofs::Steps::rooms))]
-fn assemble(
-    s: &[u8],
-    nodes: &[u64],
-    lines: &[u64],
-    options: CodegenOptions,
-    room: Counts,
-    sections: &mut [u64],
-    instructions: &mut [u64],
-    numbers: &mut [i64],
-    strings: &mut [u32],
-    pool: &mut [u8],
-    names: &mut [u16],
-) -> Counts
-    requires { Roomy s.now nodes.now lines.now (countsTold room) (tables sections.old instructions.old numbers.old strings.old pool.old names.old) }
-    ensures { Assembled (optionsTold options) s.now (countsTold room) (tables sections.old instructions.old numbers.old strings.old pool.old names.old) (tables sections.new instructions.new numbers.new strings.new pool.new names.new) (countsTold result) }
-{
-    let most = room.instructions;
-    codegen_from_program(
-        s,
-        nodes,
-        lines,
-        sections,
-        &mut instructions[..most],
-        numbers,
-        strings,
-        pool,
-        names,
-        room.lines,
-        room.names,
-        options,
-    )
-}
-
-// The machine with its duplicates replaced, and zeros up to the estimates: strings, characters and names are as many as estimated.
+// The machine with its duplicates replaced, and zeros up to the estimates: strings, characters and names are as many as estimated. Of the
+// instructions lowering is lent what it may need.
 #[tactic(auto, using(crate::proofs::Steps::rooms))]
 fn lower_tree(
     s: &[u8],
@@ -79,18 +45,20 @@ fn lower_tree(
     requires { Roomy s.now nodes.now lines.now (countsTold room) (tables sections.old instructions.old numbers.old strings.old pool.old names.old) }
     ensures { (ok (countsTold result), tables sections.new instructions.new numbers.new strings.new pool.new names.new) ≡ Operations.lower (optionsTold options) s.now (tables sections.old instructions.old numbers.old strings.old pool.old names.old) }
 {
-    let c = assemble(
+    let most = room.instructions;
+    let c = codegen_from_program(
         s,
         nodes,
         lines,
-        options,
-        room,
         sections,
-        instructions,
+        &mut instructions[..most],
         numbers,
         strings,
         pool,
         names,
+        room.lines,
+        room.names,
+        options,
     );
     let done = replace_duplicates(c, sections, instructions, numbers, strings);
     zero(sections, c.sections, room.sections);
@@ -108,42 +76,7 @@ fn lower_tree(
     }
 }
 
-// The test of room comes before any lent word is written.
-fn lower_in(
-    s: &[u8],
-    nodes: &[u64],
-    lines: &[u64],
-    options: CodegenOptions,
-    room: Counts,
-    sections: &mut [u64],
-    instructions: &mut [u64],
-    numbers: &mut [i64],
-    strings: &mut [u32],
-    pool: &mut [u8],
-    names: &mut [u16],
-) -> Answer
-    requires { Given s.now nodes.now lines.now (countsTold room) }
-    ensures { (answerTold result, tables sections.new instructions.new numbers.new strings.new pool.new names.new) ≡ Operations.lower (optionsTold options) s.now (tables sections.old instructions.old numbers.old strings.old pool.old names.old) }
-{
-    if !holds(room, sections, instructions, numbers, strings, pool, names) {
-        return Answer::Refused(NO_ROOM);
-    }
-    Answer::Done(lower_tree(
-        s,
-        nodes,
-        lines,
-        options,
-        room,
-        sections,
-        instructions,
-        numbers,
-        strings,
-        pool,
-        names,
-    ))
-}
-
-// The tree is read into a lent node table.
+// The tree is read into a lent node table. The test of room comes before any lent word is written.
 #[tactic(auto, using(crate::proofs::Steps::tree_ok, crate::proofs::Steps::tree_no, crate::proofs::Steps::limited, crate::proofs::Steps::given, crate::proofs::Steps::lower_no))]
 fn lower_by(
     s: &[u8],
@@ -164,7 +97,10 @@ fn lower_by(
     match r {
         SizeAnswer::Sized(z) => {
             let room = estimate(z);
-            lower_in(
+            if !holds(room, sections, instructions, numbers, strings, pool, names) {
+                return Answer::Refused(NO_ROOM);
+            }
+            Answer::Done(lower_tree(
                 s,
                 nodes,
                 &lines,
@@ -176,7 +112,7 @@ fn lower_by(
                 strings,
                 pool,
                 names,
-            )
+            ))
         }
         SizeAnswer::Refused(n) => Answer::Refused(n),
     }
