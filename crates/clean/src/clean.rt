@@ -69,14 +69,5 @@ pub fn clean(
         return Answer::Refused(NEEDS_UNFIXED);
     }
     let r = remove_unfixed_sections(sections, instructions, c.sections, c.instructions);
-    Answer::Done(Counts {
-        lines: c.lines,
-        sections: r.sections,
-        instructions: r.instructions,
-        numbers: c.numbers,
-        strings: c.strings,
-        characters: c.characters,
-        values: c.values,
-        names: c.names,
-    })
+    Answer::Done(c.with_code(r.sections, r.instructions))
 }

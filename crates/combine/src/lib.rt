@@ -74,14 +74,5 @@ pub fn combine(
         return Answer::Refused(LINKS_BACK);
     }
     let left = combine_all(sections, instructions, c.sections, c.instructions);
-    Answer::Done(Counts {
-        lines: c.lines,
-        sections: left,
-        instructions: c.instructions,
-        numbers: c.numbers,
-        strings: c.strings,
-        characters: c.characters,
-        values: c.values,
-        names: c.names,
-    })
+    Answer::Done(c.with_code(left, c.instructions))
 }

@@ -42,16 +42,7 @@ pub fn finish(
         Answer::Refused(n) => Answer::Refused(n),
         Answer::Done(c) => {
             let r = clean_and_combine(sections, instructions, c.sections, c.instructions);
-            Answer::Done(Counts {
-                lines: c.lines,
-                sections: r.sections,
-                instructions: r.instructions,
-                numbers: c.numbers,
-                strings: c.strings,
-                characters: c.characters,
-                values: c.values,
-                names: c.names,
-            })
+            Answer::Done(c.with_code(r.sections, r.instructions))
         }
     }
 }

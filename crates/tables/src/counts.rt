@@ -19,6 +19,18 @@ pub struct Counts {
     pub names: usize,
 }
 
+impl Counts {
+    // The same with other sections and instructions.
+    pub fn with_code(self, sections: usize, instructions: usize) -> Counts
+        ensures { result ≡ record self { sections = sections; instructions = instructions } }
+    {
+        let mut c = self;
+        c.sections = sections;
+        c.instructions = instructions;
+        c
+    }
+}
+
 // A count is at most 65,535 and no more than the lent table holds.
 fn count_fits(n: usize, len: usize) -> bool
     ensures { result ≡ (leb n mostCount && leb n len) }

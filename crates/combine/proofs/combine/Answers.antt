@@ -25,4 +25,4 @@ combine_all-left-requires c =
     (fits-sound _ _ (keeps _ _ k) (search rules) (search rules), no-links-back _ _ k c.if-not-all_fixed.ensures c.if-not-all_ahead.ensures)
 
 pub returns : goal.returns
-returns c = combine-done _ _ (sym c.if-not-check.ensures) c.if-not-all_fixed.ensures c.if-not-all_ahead.ensures (search rules) _ _ _ c.combine_all-left.ensures
+returns c = rw c.with_code.ensures (combine-done _ _ (sym c.if-not-check.ensures) c.if-not-all_fixed.ensures c.if-not-all_ahead.ensures (search rules) _ _ _ c.combine_all-left.ensures)

@@ -9,4 +9,4 @@ pub returns-in-Refused : goal.returns-in-Refused
 returns-in-Refused c = refused-both _ _ _ _ _ c.in-Refused.ensures
 
 pub returns-in-Done : goal.returns-in-Done
-returns-in-Done c = finish-done _ _ _ _ _ (made _ _ _ _ _ c.in-Done.ensures) _ _ _ _ c.clean_and_combine-r.ensures
+returns-in-Done c = rw c.with_code.ensures (finish-done _ _ _ _ _ (made _ _ _ _ _ c.in-Done.ensures) _ _ _ _ c.clean_and_combine-r.ensures)
