@@ -1,7 +1,7 @@
 -- A list of statements: its count, its statements one by one, and what is known midway. Assumes nothing.
-use mathlib.Core.Path.{◌≡◌, refl}
+use mathlib.Core.Path.{refl}
 use mathlib.Core.List.{List}
-use Prim.Native.Nat.{ℕ, zero, suc, ◌-◌, ◌≤◌, ◌<◌}
+use Prim.Native.Nat.{ℕ, zero, suc, ◌-◌, ◌^◌, ◌≤◌, ◌<◌}
 use native.Mathlib.Omega.{arith}
 use native.Mathlib.Numerals.{sub-one}
 use Rattle.rules.specs.Constants.{listBits}
@@ -10,10 +10,12 @@ use Rattle.rules.specs.Tree.{Block, end, ofBlock, emptyTally}
 use Rattle.rules.specs.Parse.{Reader, At, stmt, block, bits, ◌>>=◌}
 use Rattle.bits.specs.Reads.{Gives, Took, Fine, at}
 use Rattle.bits.specs.declared.Cursor.{Cursor}
+use Rattle.bits.specs.declared.Step.{Step}
 use Rattle.nodes.specs.Width.{width}
-use Rattle.nodes.specs.Builds.{listR, heldS, countS, heldB, countB, Built, Midway}
+use Rattle.nodes.specs.Builds.{listR, heldS, countS, HeldB, countB, Built, Midway, ReadsBlock, ReadsList}
 use Rattle.nodes.specs.Holds.{at-end}
 use Rattle.bits.proofs.Gives.{then, stop, done, assoc}
+use Rattle.nodes.proofs.Built.{behind}
 use Rattle.nodes.proofs.Table.{agree_refl, agree-part, agree_trans}
 
 -- a list within a statement
@@ -70,27 +72,24 @@ mid-more {left = left} {d = d} m h x =
       fine = x.fine;
     }
 
-mid-stop : {n dep : ℕ} {s t0 t : List ℕ} {c0 c : Cursor} {total left x : ℕ} → Midway n dep s t0 t c0 c total left → 0 < left → Gives (stmt n dep) s (at c) (refused x) → Gives (block total (stmt n dep)) s (at c0) (refused x)
+pub mid-stop : {n dep : ℕ} {s t0 t : List ℕ} {c0 c : Cursor} {total left x : ℕ} → Midway n dep s t0 t c0 c total left → 0 < left → Gives (stmt n dep) s (at c) (refused x) → Gives (block total (stmt n dep)) s (at c0) (refused x)
 mid-stop {left = left} {x = x} m h g = m.stops x (block-stop left h g)
 
--- the end: what was read stands behind the count
-pub list-built : {n dep : ℕ} {s t0 t : List ℕ} {c c1 d : Cursor} {count left : ℕ} → Took (bits listBits) s c 0 0 64 count c1 → Midway n dep s t0 t c1 d count left → left ≤ 0
-    → Built (listR n dep) (heldB s n) countB s t0 t c c count d
-unfolding listR ofBlock emptyTally width
-list-built {t = t} {c = c} {c1 = c1} {d = d} {left = left} k m h =
-    let v = k.moved in
-    let x = m.counts end d (omega arith) in
-    let e : c1.nodes ≡ c.nodes = omega arith in
+-- none is left
+pub block-built : {n dep : ℕ} {s t0 t : List ℕ} {c d : Cursor} {count left : ℕ} → count < 2 ^ listBits → Midway n dep s t0 t c d count left → left ≤ 0
+    → Built (block count (stmt n dep)) (HeldB s n) countB s t0 t c c count d
+unfolding ofBlock emptyTally width
+block-built {t = t} {d = d} {left = left} k m h =
     record {
       val = m.pre end;
-      reads = then _ k.reads (m.goes end (at d) (block-end left _ h));
-      holds = record { is = rw (← e) (m.holds t end d.nodes agree_refl (at-end (omega arith) refl)); few = k.small };
-      kept = rw (← e) m.kept;
-      counts = omega arith;
+      reads = m.goes end (at d) (block-end left _ h);
+      holds = record { is = m.holds t end d.nodes agree_refl (at-end (omega arith) refl); few = k };
+      kept = m.kept;
+      counts = m.counts end d (omega arith);
       fine = m.fine;
     }
 
-pub list-stops : {n dep : ℕ} {s t0 t : List ℕ} {c c1 d : Cursor} {count left x : ℕ} → Took (bits listBits) s c 0 0 64 count c1 → Midway n dep s t0 t c1 d count left → 0 < left
-    → Gives (stmt n dep) s (at d) (refused x) → Gives (listR n dep) s (at c) (refused x)
+-- a count and the statements behind it
+pub list-from : {n : ℕ} (dep : ℕ) {s t t' : List ℕ} {c d : Cursor} {count : ℕ} {st : Step} → Took (bits listBits) s c 0 0 (2 ^ listBits) count d → ReadsBlock s t t' d n dep count st → ReadsList s t t' c n dep st
 unfolding listR
-list-stops k m h g = then _ k.reads (mid-stop m h g)
+list-from dep k u = let m = k.moved in behind (λ res g. then _ k.reads g) (omega arith) (λ x e q. omega arith) u

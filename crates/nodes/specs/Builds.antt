@@ -1,5 +1,5 @@
 -- What a step that fills the node table gives: it refuses as a reader of rules does, or what that reader reads stands in the table.
-use Rattle.std.specs.Prelude.{◌≡◌, List, [], ◌∷◌, ℕ, ◌+◌, ◌-◌, ◌*◌, ◌≤◌, ◌<◌, min, length, get_or, set}
+use Rattle.std.specs.Prelude.{◌≡◌, List, [], ◌∷◌, ℕ, ◌+◌, ◌-◌, ◌*◌, ◌^◌, ◌≤◌, ◌<◌, min, length, get_or, set}
 use Rattle.rules.specs.Constants.{mostNodes, mostNames, listBits, flagBits}
 use Rattle.rules.specs.Refusal.{unassigned}
 use Rattle.rules.specs.Bits.{refused, ok}
@@ -57,25 +57,27 @@ countE e b c = Counted (ofExpr e) 0 b c
 abbrev pub ReadsExpr : List ℕ → List ℕ → List ℕ → Cursor → ℕ → ℕ → Step → Type 0
 ReadsExpr s t t' c n d r = Builds (expr n d) (heldE s n) countE s t t' c c r
 
--- ---- a list of statements behind its count, which the step answers
+-- ---- a list of statements, whose count the step answers
 
 pub record HeldB (s : List ℕ) (n : ℕ) (t : List ℕ) (v i : ℕ) (x : Block) (j : ℕ) : Type 0 where
   pub is : HoldsB t s n v i x j
-  pub few : v < 64
-
-abbrev pub heldB : List ℕ → ℕ → List ℕ → ℕ → ℕ → Block → ℕ → Type 0
-heldB s n t v i x j = HeldB s n t v i x j
+  pub few : v < 2 ^ listBits
 
 abbrev pub countB : Block → Cursor → Cursor → Type 0
 countB x b c = Counted (ofBlock x) (width x) b c
 
+-- behind its count
+abbrev pub ReadsBlock : List ℕ → List ℕ → List ℕ → Cursor → ℕ → ℕ → ℕ → Step → Type 0
+ReadsBlock s t t' c n d k r = Builds (block k (stmt n d)) (HeldB s n) countB s t t' c c r
+
+-- with its count
 unfoldable pub listR : ℕ → ℕ → Reader Block
 listR n d = do
   k ← bits listBits
   block k (stmt n d)
 
 abbrev pub ReadsList : List ℕ → List ℕ → List ℕ → Cursor → ℕ → ℕ → Step → Type 0
-ReadsList s t t' c n d r = Builds (listR n d) (heldB s n) countB s t t' c c r
+ReadsList s t t' c n d r = Builds (listR n d) (HeldB s n) countB s t t' c c r
 
 -- ---- a statement, as what it puts before a list
 

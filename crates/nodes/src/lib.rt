@@ -7,12 +7,12 @@
 pub mod kinds;
 pub mod layout;
 
-ghost use Rattle.std.specs.Prelude.{◌≡◌, ◌≤◌, ◌<◌, ◌*◌, ◌+◌, ◌-◌, length};
-ghost use Rattle.rules.specs.Constants.{mostNodes};
+ghost use Rattle.std.specs.Prelude.{◌≡◌, ◌≤◌, ◌<◌, ◌*◌, ◌+◌, ◌-◌, ◌^◌, length};
+ghost use Rattle.rules.specs.Constants.{mostNodes, listBits};
 ghost use Rattle.rules.specs.Parse.{expr, incdecOf, identOf, number_of, stringOf, gotoOf, assignOf};
 ghost use Rattle.nodes.specs.Words.{word_of, iteWord};
 ghost use Rattle.nodes.specs.Width.{orOne};
-ghost use Rattle.nodes.specs.Builds.{Ready, Begun, BegunStmt, Closed, Spans, Builds, before, beforeStmt, joined, heldE, countE, held_f, countF, flagR, leafR, heldS, countS, ReadsExpr, ReadsStmt, ReadsList};
+ghost use Rattle.nodes.specs.Builds.{Ready, Begun, BegunStmt, Closed, Spans, Builds, before, beforeStmt, joined, heldE, countE, held_f, countF, flagR, leafR, heldS, countS, ReadsExpr, ReadsStmt, ReadsBlock, ReadsList};
 
 use crate::layout::{LAST, NAME, OP, POS, WIDTH};
 use bits::{Cursor, Step};
@@ -220,7 +220,7 @@ fn assign(s: &[u8], t: &mut [u64], c: Cursor, names: u64, depth: usize, i: usize
 }
 
 // A statement with `depth` levels left.
-#[cycle(read_list_read_stmt)]
+#[cycle(statements)]
 pub fn read_stmt(s: &[u8], t: &mut [u64], c: Cursor, names: u64, depth: usize) -> Step
     requires { Ready s.now t.old c names }
     ensures { ReadsStmt s.now t.old t.new c names depth result }
@@ -255,21 +255,30 @@ pub fn read_stmt(s: &[u8], t: &mut [u64], c: Cursor, names: u64, depth: usize) -
 }
 
 // A count and so many statements; answers the count.
-#[cycle(read_list_read_stmt)]
+#[cycle(statements)]
 pub fn read_list(s: &[u8], t: &mut [u64], c: Cursor, names: u64, depth: usize) -> Step
     requires { Ready s.now t.old c names }
     ensures { ReadsList s.now t.old t.new c names depth result }
 {
     let r = bits::take(s, c, LIST_BITS);
-    let Step::Next(count, c1) = r else {
+    let Step::Next(count, d) = r else {
         return r;
     };
-    let mut d = c1;
+    read_block(s, t, d, names, depth, count)
+}
+
+// As many statements as were counted; answers the count.
+#[cycle(statements)]
+pub fn read_block(s: &[u8], t: &mut [u64], c: Cursor, names: u64, depth: usize, count: u64) -> Step
+    requires { (Ready s.now t.old c names) × (count < 2 ^ listBits) }
+    ensures { ReadsBlock s.now t.old t.new c names depth count result }
+{
+    let mut d = c;
     let mut left = count;
     while left > 0 {
-        let r1 = read_stmt(s, t, d, names, depth);
-        let Step::Next(_, e) = r1 else {
-            return r1;
+        let r = read_stmt(s, t, d, names, depth);
+        let Step::Next(_, e) = r else {
+            return r;
         };
         d = e;
         left -= 1;

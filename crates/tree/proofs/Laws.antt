@@ -16,7 +16,7 @@ use Rattle.rules.specs.Operations.{size, size_of}
 use Rattle.bits.specs.Reads.{Gives, Fine, Took, at}
 use Rattle.bits.specs.declared.Cursor.{Cursor}
 use Rattle.names.specs.Names.{firstName, names_at, end_at, NamedAll}
-use Rattle.nodes.specs.Builds.{listR, Built, heldB, countB}
+use Rattle.nodes.specs.Builds.{listR, Built, HeldB, countB}
 use Rattle.tree.specs.declared.SizeAnswer.{SizeAnswer}
 use Rattle.tree.specs.declared.SizeAnswer.TheVariants.{Sized, Refused as No}
 use Rattle.tree.specs.Files.{headValues, Ended, lineWord, HoldsL, no_line, a-line, Lined, LinesMid, Filed, Treed, TreeRead, start, origin, widths, Headed, Placed, sizeRes}
@@ -92,7 +92,7 @@ lines_start n total s t ls c f =
     }
 
 module _ {n total : ℕ} {s t ls : List ℕ} {c d : Cursor} {k : ℕ} (m : LinesMid n total s t ls c d k) where
-  pub lines_more : {t' : List ℕ} {v : ℕ} {e : Cursor} (ls' : List ℕ) → k < total → k < length ls → ls' ≡ set ls k (v + 64 * d.nodes) → Built (listR n mostDepth) (heldB s n) countB s t t' d d v e
+  pub lines_more : {t' : List ℕ} {v : ℕ} {e : Cursor} (ls' : List ℕ) → k < total → k < length ls → ls' ≡ set ls k (v + 64 * d.nodes) → Built (listR n mostDepth) (HeldB s n) countB s t t' d d v e
       → LinesMid n total s t' ls' c e (k + 1)
   unfolding ofLines both lineWord widths
   lines_more {t' = t'} {v = v} {e = e} ls' h l w x =

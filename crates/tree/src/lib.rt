@@ -66,7 +66,7 @@ fn fill(s: &[u8], c: Cursor) -> Step
     Step::Next(0, d)
 }
 
-// A line's statements; answers their count. An empty line is read here, since many lines of a short script are.
+// A line's statements; answers their count. An empty line is read here, without a call, since many lines of a short script are.
 fn read_line(s: &[u8], t: &mut [u64], c: Cursor, names: u64) -> Step
     requires { Ready s.now t.old c names }
     ensures { ReadsList s.now t.old t.new c names mostDepth result }
@@ -78,7 +78,7 @@ fn read_line(s: &[u8], t: &mut [u64], c: Cursor, names: u64) -> Step
     if count == 0 {
         return Step::Next(count, d);
     }
-    nodes::read_list(s, t, c, names, MOST_DEPTH)
+    nodes::read_block(s, t, d, names, MOST_DEPTH, count)
 }
 
 // The lines: of each its count of statements and its first node are kept in one word.

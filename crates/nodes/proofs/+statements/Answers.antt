@@ -1,4 +1,4 @@
--- A list is its count and its statements one by one; a statement is what its kind says, and each refusal on the way is that of `stmt`.
+-- A list is its count and the statements behind it, one by one; a statement is what its kind says, and each refusal on the way is that of `stmt`.
 use Rattle.std.proofs.Common.{arith, refl}
 use Rattle.rules.specs.Parse.{iteOf}
 use Rattle.nodes.specs.Builds.{listR}
@@ -8,25 +8,27 @@ use Rattle.nodes.proofs.Puts.{put-ite}
 use Rattle.nodes.proofs.Ite.{ite-lists, ite-fine, ite-adds}
 use Rattle.nodes.proofs.Built.{incdec-stmt, sealed, refuses, behind}
 use Rattle.nodes.proofs.Arms.{stmt-stop, arm-goto, arm-ite, arm-incdec, arm-assign}
-use Rattle.nodes.proofs.Lists.{list-then, list-stop, list-built, list-stops, mid_start, mid-more}
-use Rattle.nodes.proofs.+read_list_read_stmt.Goals as goal
+use Rattle.nodes.proofs.Lists.{list-then, list-stop, list-from, block-built, mid_start, mid-more, mid-stop}
+use Rattle.nodes.proofs.+statements.Goals as goal
 
 pub read_list-returns-in_default : goal.read_list-returns-in_default
 unfolding listR
 read_list-returns-in_default t c = refuses c.in_default.is (stop _ c.in_default.ensures.here)
 
-pub read_list-loop-left-init : goal.read_list-loop-left-init
-read_list-loop-left-init t c = mid_start _ _ _ _ _ _ c.in-Next.ensures.here.fine
-
-pub read_list-returns-in_default-r1 : goal.read_list-returns-in_default-r1
-read_list-returns-in_default-r1 t c =
-    refuses c.in_default-r1.is (list-stops c.in-Next.ensures.here c.loop-left.invariant c.loop-left-test.true c.in_default-r1.ensures.here)
-
-pub read_list-loop-left-preserved : goal.read_list-loop-left-preserved
-read_list-loop-left-preserved t c = mid-more c.loop-left.invariant c.loop-left-test.true c.in-Next-r1.ensures.here
-
 pub read_list-returns : goal.read_list-returns
-read_list-returns t c = record { here = list-built c.in-Next.ensures.here c.loop-left.invariant c.loop-left-test.false }
+read_list-returns t c = list-from _ c.in-Next.ensures.here c.read_block.ensures
+
+pub read_block-loop-left-init : goal.read_block-loop-left-init
+read_block-loop-left-init t c = mid_start _ _ _ _ _ _ c.requires.0.fine
+
+pub read_block-returns-in_default : goal.read_block-returns-in_default
+read_block-returns-in_default t c = refuses c.in_default.is (mid-stop c.loop-left.invariant c.loop-left-test.true c.in_default.ensures.here)
+
+pub read_block-loop-left-preserved : goal.read_block-loop-left-preserved
+read_block-loop-left-preserved t c = mid-more c.loop-left.invariant c.loop-left-test.true c.in-Next.ensures.here
+
+pub read_block-returns : goal.read_block-returns
+read_block-returns t c = record { here = block-built c.requires.1 c.loop-left.invariant c.loop-left-test.false }
 
 pub read_stmt-returns-in_default : goal.read_stmt-returns-in_default
 read_stmt-returns-in_default t c = refuses c.in_default.is (stmt-stop _ _ c.in_default.ensures.here)
