@@ -3,10 +3,10 @@ use mathlib.Core.Path.{◌≡◌, refl, sym, ◌∙◌, ap}
 use mathlib.Core.Bool.{Bool}
 use mathlib.Core.List.{List}
 use mathlib.Core.Option.{some}
-use Prim.Native.Nat.{ℕ, zero, suc, ◌+◌, ◌*◌, ◌≤◌, ◌<◌, ◌%◌}
+use Prim.Native.Nat.{ℕ, zero, suc, ◌+◌, ◌*◌, ◌≤◌, ◌<◌, ◌%◌, ◌^◌}
 use native.Mathlib.Omega.{arith}
 use lib.ListN.{length, get_or, get_elem?}
-use Rattle.rules.specs.Constants.{mostBytes}
+use Rattle.rules.specs.Constants.{mostBytes, nameBits, listBits}
 use Rattle.rules.specs.Bits.{isOne}
 use Rattle.rules.specs.Tree.{Assignop, Expr, Block, goto, ite, assign, end}
 use Rattle.rules.specs.Parse.{assignops}
@@ -163,10 +163,10 @@ assign-same y y' o o' e e' x x' p q r w = rw (p, q, r, w)
 ite_same : (e e' : Expr) (x x' y y' z z' : Block) → e ≡ e' → x ≡ x' → y ≡ y' → z ≡ z' → ite e x y z ≡ ite e' x' y' z'
 ite_same e e' x x' y y' z z' p q r w = rw (p, q, r, w)
 
-count_same : (b b' w w' : ℕ) → b < 64 → b' < 64 → b + 64 * w ≡ b' + 64 * w' → b ≡ b'
+count_same : (b b' w w' : ℕ) → b < 2 ^ listBits → b' < 2 ^ listBits → b + 2 ^ listBits * w ≡ b' + 2 ^ listBits * w' → b ≡ b'
 count_same b b' w w' p q e = omega arith
 
-pub one_b : {t s : List ℕ} {m n i z z' : ℕ} {x x' : Block} → length s ≤ mostBytes → m ≤ 256 → HoldsB t s m n i x z → HoldsB t s m n i x' z' → Same x x' z z'
+pub one_b : {t s : List ℕ} {m n i z z' : ℕ} {x x' : Block} → length s ≤ mostBytes → m ≤ 2 ^ nameBits → HoldsB t s m n i x z → HoldsB t s m n i x' z' → Same x x' z z'
 unfolding assignops
 one_b a c (at-end p q) h = let d = is-end h p in record { tree = sym d.is; last = sym q ∙ d.here }
 one_b a c (at-goto p w q e xs) h =
@@ -179,7 +179,7 @@ one_b a c (at-goto p w q e xs) h =
 one_b a c (at-ite n k v u p w b q e y z xs) h =
     let d = is-ite (omega arith) h (kind-of _ _ _ _ _ _ _ (omega arith) w) in
     let r = d.lists in
-    let x = twice iteKind 0 0 n d.a (k + 64 * u) (d.b + 64 * d.w) _ _ v d.v _ (omega arith) (omega arith) w d.word in
+    let x = twice iteKind 0 0 n d.a (k + 2 ^ listBits * u) (d.b + 2 ^ listBits * d.w) _ _ v d.v _ (omega arith) (omega arith) w d.word in
     let f = one a c e (start-at (q ∙ sym d.next) d.test) in
     let g = one_b a c y (begin-at x.name-same f.last d.then) in
     let l = one_b a c z (begin-at (count_same _ _ u d.w b.few-else r.few-else x.pos-same) g.last d.else) in

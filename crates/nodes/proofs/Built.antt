@@ -5,7 +5,7 @@ use Prim.Native.Nat.{ℕ, zero, suc, ◌+◌, ◌<◌}
 use native.Mathlib.Omega.{arith}
 use lib.ListN.{length, get_or}
 use Rattle.rules.specs.Bits.{Res, refused, ok, isOne}
-use Rattle.rules.specs.Constants.{flagBits, numberBits}
+use Rattle.rules.specs.Constants.{flagBits, charBits, numberBits}
 use Rattle.rules.specs.Refusal.{unassigned}
 use Rattle.rules.specs.Tree.{Expr, Block, number, ofExpr, ofBlock, statement, node, both, emptyTally}
 use Rattle.rules.specs.Parse.{Reader, At, bits, name_of, succeed, refuse, ◌>>=◌, incdecOf, step_of, number_of, signed}
@@ -123,4 +123,4 @@ number-from g = g
 pub chars-length : (s : List ℕ) (n p : ℕ) → length (charsAt s n p) ≡ n
 unfolding charsAt
 chars-length s zero p = refl
-chars-length s (suc n) p = ap suc (chars-length s n (p + 7))
+chars-length s (suc n) p = ap suc (chars-length s n (p + charBits))

@@ -3,11 +3,11 @@ use mathlib.Core.Path.{◌≡◌, refl, sym, ◌∙◌, ap}
 use mathlib.Core.Bool.{Bool}
 use mathlib.Core.List.{List, [], ◌∷◌}
 use mathlib.Core.Option.{some}
-use Prim.Native.Nat.{ℕ, zero, suc, ◌+◌, ◌*◌, ◌≤◌, ◌<◌, ◌%◌}
+use Prim.Native.Nat.{ℕ, zero, suc, ◌+◌, ◌*◌, ◌≤◌, ◌<◌, ◌%◌, ◌^◌}
 use native.Mathlib.Omega.{arith}
 use lib.IntN.{ℤ}
 use lib.ListN.{length, get_or, get_elem?}
-use Rattle.rules.specs.Constants.{mostBytes, numberBits, charBits, byteBits}
+use Rattle.rules.specs.Constants.{mostBytes, nameBits, stringLengthBits, numberBits, charBits, byteBits}
 use Rattle.rules.specs.Bits.{spelled, isOne}
 use Rattle.rules.specs.Tree.{Binop, Unop, Expr, binop, unop, ident, number, string}
 use Rattle.rules.specs.Parse.{binops, unops, signed}
@@ -87,7 +87,7 @@ pub record IsString (t s : List ℕ) (m i : ℕ) (e : Expr) (j : ℕ) : Type 0 w
   pub p : ℕ
   pub is : e ≡ string (charsAt s n p)
   pub word : get_or t i 0 ≡ word_of stringKind 0 n p j 0
-  pub few : n < 128
+  pub few : n < 2 ^ stringLengthBits
   pub inside : p + charBits * n ≤ byteBits * length s
   pub last : j ≡ i + 1
 
@@ -161,7 +161,7 @@ number_same s p p' z e q = rw (← e, q)
 string-same : (s : List ℕ) (n n' p p' : ℕ) (x : List ℕ) → charsAt s n p ≡ x → n ≡ n' → p ≡ p' → string x ≡ string (charsAt s n' p')
 string-same s n n' p p' x e q r = rw (← e, q, r)
 
-pub one : {t s : List ℕ} {m i j j' : ℕ} {e e' : Expr} → length s ≤ mostBytes → m ≤ 256 → HoldsE t s m i e j → HoldsE t s m i e' j' → Same e e' j j'
+pub one : {t s : List ℕ} {m i j j' : ℕ} {e e' : Expr} → length s ≤ mostBytes → m ≤ 2 ^ nameBits → HoldsE t s m i e j → HoldsE t s m i e' j' → Same e e' j j'
 unfolding binops unops
 one a c (at-binop op o p w q l r) h =
     let y = op-small binops op p in

@@ -2,12 +2,13 @@
 -- The condition is read from c1 to c2, the then-list x to c3, the else-list y to c4; c stands before the Ite.
 use mathlib.Core.Path.{◌≡◌, ap}
 use mathlib.Core.List.{List}
-use Prim.Native.Nat.{ℕ, ◌+◌, ◌*◌, ◌-◌, ◌≤◌, ◌<◌}
+use Prim.Native.Nat.{ℕ, ◌+◌, ◌*◌, ◌-◌, ◌≤◌, ◌<◌, ◌^◌}
 use native.Mathlib.Omega.{arith}
+use Rattle.rules.specs.Constants.{listBits}
 use Rattle.rules.specs.Tree.{Expr, Block, ite, ofBlock, statement, node, both}
 use Rattle.bits.specs.Reads.{Fine, Moved}
 use Rattle.bits.specs.declared.Cursor.{Cursor}
-use Rattle.nodes.specs.Width.{width, orOne}
+use Rattle.nodes.specs.Width.{mostSections, width, orOne}
 use Rattle.nodes.specs.Holds.{Lists}
 use Rattle.nodes.specs.Builds.{countE, countB, Adds, Spans, joined}
 use Rattle.nodes.proofs.Width.{or-one, or-one-lt, four}
@@ -22,14 +23,14 @@ module _ (x y : Block) {c2 c3 c4 : Cursor} (k : countB x c2 c3) (l : countB y c3
   pub ite-spans : {s : List ℕ} → 0 < c2.statements → Fine s c4 → Spans c2.sections c3.sections c4.sections
   ite-spans h f = let a = four x in let b = four y in omega arith
 
-  pub ite-lists : {s : List ℕ} {a b : ℕ} → a < 64 → b < 64 → 0 < c2.statements → Fine s c4 → Lists a b (orOne (c3.sections - c2.sections)) (orOne (c4.sections - c3.sections)) x y
+  pub ite-lists : {s : List ℕ} {a b : ℕ} → a < 2 ^ listBits → b < 2 ^ listBits → 0 < c2.statements → Fine s c4 → Lists a b (orOne (c3.sections - c2.sections)) (orOne (c4.sections - c3.sections)) x y
   ite-lists p q h f =
       let z = ite-spans h f in
       record {
         few-then = p;
         few-else = q;
-        small-then = or-one-lt (c3.sections - c2.sections) 8192 (omega arith) (omega arith);
-        small-else = or-one-lt (c4.sections - c3.sections) 8192 (omega arith) (omega arith);
+        small-then = or-one-lt (c3.sections - c2.sections) mostSections (omega arith) (omega arith);
+        small-else = or-one-lt (c4.sections - c3.sections) mostSections (omega arith) (omega arith);
         width-then = ap orOne width-then;
         width-else = ap orOne width-else;
       }

@@ -9,7 +9,7 @@ use Rattle.bits.specs.Reads.{Gives, at, Fine}
 use Rattle.bits.specs.declared.Cursor.{Cursor}
 use Rattle.bits.specs.declared.Step.{Step}
 use Rattle.bits.specs.declared.Step.TheVariants.{Next, Refused}
-use Rattle.nodes.specs.Width.{width, orOne}
+use Rattle.nodes.specs.Width.{mostSections, width, orOne}
 use Rattle.nodes.specs.Holds.{HoldsE, HoldsB, Flag}
 
 -- t' is as t from node i up to node j
@@ -140,9 +140,9 @@ joined a b c = record { pos = c.pos; nodes = c.nodes; statements = c.statements;
 pub record Spans (a b c : ℕ) : Type 0 where
   pub first : a ≤ b
   pub second : b ≤ c
-  pub small-first : b < a + 8192
-  pub small-second : c < b + 8192
-  pub all : c ≤ 8192
+  pub small-first : b < a + mostSections
+  pub small-second : c < b + mostSections
+  pub all : c ≤ mostSections
 
 -- ---- what stands behind a kind
 

@@ -1,29 +1,29 @@
 -- How the node table holds a tree: a word a node, children behind their parent in file order.
 -- A relation says what stands in the nodes from i up to j; of the file it needs what a word does not keep, the bits of numbers and characters.
-use Rattle.std.specs.Prelude.{◌≡◌, Bool, List, ℕ, ◌+◌, ◌*◌, ◌≤◌, ◌<◌, ℤ, length, get_or}
+use Rattle.std.specs.Prelude.{◌≡◌, Bool, List, ℕ, ◌+◌, ◌*◌, ◌^◌, ◌≤◌, ◌<◌, ℤ, length, get_or}
 use Rattle.std.proofs.Math.Option.{some}
 use Rattle.std.proofs.Math.ListN.{get_elem?}
-use Rattle.rules.specs.Constants.{numberBits, charBits, byteBits}
+use Rattle.rules.specs.Constants.{flagBits, listBits, stringLengthBits, numberBits, charBits, byteBits}
 use Rattle.rules.specs.Bits.{spelled, isOne}
 use Rattle.rules.specs.Tree.{Binop, Unop, Assignop, Expr, Block, binop, unop, ident, number, string, goto, ite, assign, end}
 use Rattle.rules.specs.Parse.{binops, unops, assignops, signed}
 use Rattle.bits.specs.Reads.{charsAt}
 use Rattle.nodes.specs.Words.{word_of, iteWord, binopKind, unopKind, incdecKind, identKind, numberKind, stringKind, gotoKind, stepKind, assignKind}
-use Rattle.nodes.specs.Width.{width, orOne}
+use Rattle.nodes.specs.Width.{mostSections, width, orOne}
 
 -- node i alone, with a flag b and the name x of m names
 pub record Flag (kind m : ℕ) (t : List ℕ) (i b x j : ℕ) : Type 0 where
   pub last : j ≡ i + 1
   pub is : get_or t i 0 ≡ word_of kind b x 0 j 0
-  pub flag : b < 2
+  pub flag : b < 2 ^ flagBits
   pub known : x < m
 
 -- the counts a and b of an Ite's lists x and y, and the sections that each of them makes
 pub record Lists (a b v w : ℕ) (x y : Block) : Type 0 where
-  pub few-then : a < 64
-  pub few-else : b < 64
-  pub small-then : v < 8192
-  pub small-else : w < 8192
+  pub few-then : a < 2 ^ listBits
+  pub few-else : b < 2 ^ listBits
+  pub small-then : v < mostSections
+  pub small-else : w < mostSections
   pub width-then : v ≡ orOne (width x)
   pub width-else : w ≡ orOne (width y)
 
@@ -34,7 +34,7 @@ pub data HoldsE (t s : List ℕ) (m : ℕ) : ℕ → Expr → ℕ → Type 0 whe
   at-incdec : {i j : ℕ} (b : ℕ) (f : Bool) (x : ℕ) → isOne b ≡ f → Flag incdecKind m t i b x j → HoldsE t s m i (Expr.incdec f x) j
   at-ident : {i j : ℕ} (x : ℕ) → j ≡ i + 1 → get_or t i 0 ≡ word_of identKind 0 x 0 j 0 → x < m → HoldsE t s m i (ident x) j
   at-number : {i j : ℕ} (p : ℕ) (z : ℤ) → j ≡ i + 1 → get_or t i 0 ≡ word_of numberKind 0 0 p j 0 → p + numberBits ≤ byteBits * length s → signed (spelled s numberBits p) ≡ z → HoldsE t s m i (number z) j
-  at-string : {i j : ℕ} (l p : ℕ) (x : List ℕ) → j ≡ i + 1 → get_or t i 0 ≡ word_of stringKind 0 l p j 0 → l < 128 → p + charBits * l ≤ byteBits * length s → charsAt s l p ≡ x → HoldsE t s m i (string x) j
+  at-string : {i j : ℕ} (l p : ℕ) (x : List ℕ) → j ≡ i + 1 → get_or t i 0 ≡ word_of stringKind 0 l p j 0 → l < 2 ^ stringLengthBits → p + charBits * l ≤ byteBits * length s → charsAt s l p ≡ x → HoldsE t s m i (string x) j
 
 -- a list of n statements from node i to node z; the first statement ends at l, and k statements stand behind it
 pub data HoldsB (t s : List ℕ) (m : ℕ) : ℕ → ℕ → Block → ℕ → Type 0 where

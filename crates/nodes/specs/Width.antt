@@ -1,6 +1,11 @@
 -- How many sections lowering makes of a list of statements.
-use Rattle.std.specs.Prelude.{ℕ, suc, ◌+◌, max}
+use Rattle.std.specs.Prelude.{ℕ, suc, ◌+◌, ◌*◌, max}
+use Rattle.rules.specs.Constants.{mostNodes, sectionsAStatement}
 use Rattle.rules.specs.Tree.{Block, goto, ite, assign, end}
+
+-- of a tree no more than these
+abbrev pub mostSections : ℕ
+mostSections = sectionsAStatement * mostNodes
 
 -- in an Ite an empty list makes one all the same
 unfoldable pub orOne : ℕ → ℕ

@@ -1,5 +1,6 @@
 -- A node's word: its fields and its kinds.
-use Rattle.std.specs.Prelude.{ℕ, ◌+◌, ◌*◌}
+use Rattle.std.specs.Prelude.{ℕ, ◌+◌, ◌*◌, ◌^◌}
+use Rattle.rules.specs.Constants.{nameBits, listBits, operatorBits}
 
 -- ---- kinds: an expression's is that of the file, a statement's is 8 more
 
@@ -35,8 +36,8 @@ assignKind = 11
 
 -- kind (4 bits), operator or flag (4), name or count (8), bit position of what is read again (19), a width (13), node behind the subtree (12)
 unfoldable pub word_of : ℕ → ℕ → ℕ → ℕ → ℕ → ℕ → ℕ
-word_of kind op name pos last width = kind + 16 * (op + 16 * (name + 256 * (pos + 524288 * (width + 8192 * last))))
+word_of kind op name pos last width = kind + 16 * (op + 2 ^ operatorBits * (name + 2 ^ nameBits * (pos + 524288 * (width + 8192 * last))))
 
 -- an Ite: the counts a and b of its lists, their widths v and w; b and w share the field of a position
 abbrev pub iteWord : ℕ → ℕ → ℕ → ℕ → ℕ → ℕ
-iteWord a b v w last = word_of iteKind 0 a (b + 64 * w) last v
+iteWord a b v w last = word_of iteKind 0 a (b + 2 ^ listBits * w) last v

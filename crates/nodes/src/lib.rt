@@ -8,13 +8,13 @@ pub mod kinds;
 pub mod layout;
 
 ghost use Rattle.std.specs.Prelude.{◌≡◌, ◌≤◌, ◌<◌, ◌*◌, ◌+◌, ◌-◌, ◌^◌, length};
-ghost use Rattle.rules.specs.Constants.{mostNodes, listBits};
+ghost use Rattle.rules.specs.Constants.{mostNodes, nameBits, listBits, operatorBits};
 ghost use Rattle.rules.specs.Parse.{expr, incdecOf, identOf, number_of, stringOf, gotoOf, assignOf};
 ghost use Rattle.nodes.specs.Words.{word_of, iteWord};
 ghost use Rattle.nodes.specs.Width.{orOne};
 ghost use Rattle.nodes.specs.Builds.{Ready, Begun, BegunStmt, Closed, Spans, Builds, before, beforeStmt, joined, heldE, countE, held_f, countF, flagR, leafR, heldS, countS, ReadsExpr, ReadsStmt, ReadsBlock, ReadsList};
 
-use crate::layout::{LAST, NAME, OP, POS, WIDTH};
+use crate::layout::{COUNTS, LAST, NAME, OP, POS, WIDTH};
 use bits::{Cursor, Step};
 use kinds::{
     ASSIGN, BINOP, FILE_ASSIGN, FILE_GOTO, FILE_ITE, FILE_STEP, GOTO, IDENT, INCDEC, ITE, NUMBER,
@@ -29,7 +29,7 @@ use params::refusal::{UNASSIGNED, UNKNOWN_NAME};
 // A node's word.
 #[tactic(auto, unfolding(crate::specs::Words::word_of))]
 fn word(kind: u64, op: u64, name: u64, pos: usize, last: usize, width: usize) -> u64
-    requires { (kind < 16) × (op < 16) × (name < 256) × (pos < 524288) × (last < 4096) × (width < 8192) }
+    requires { (kind < 16) × (op < 2 ^ operatorBits) × (name < 2 ^ nameBits) × (pos < 524288) × (last < 4096) × (width < 8192) }
     ensures { result ≡ word_of kind op name pos last width }
 {
     let low = kind + OP * op + NAME * name + POS * (pos as u64);
@@ -38,7 +38,7 @@ fn word(kind: u64, op: u64, name: u64, pos: usize, last: usize, width: usize) ->
 
 // Node i is done: its word is written, now that the node behind it is known.
 fn close(t: &mut [u64], i: usize, kind: u64, op: u64, name: u64, pos: usize, c: Cursor) -> Step
-    requires { (i < length t.old) × (kind < 16) × (op < 16) × (name < 256) × (pos < 524288) × (c.nodes ≤ mostNodes) }
+    requires { (i < length t.old) × (kind < 16) × (op < 2 ^ operatorBits) × (name < 2 ^ nameBits) × (pos < 524288) × (c.nodes ≤ mostNodes) }
     ensures { Closed t.old t.new i (word_of kind op name pos c.nodes 0) c result }
 {
     let w = word(kind, op, name, pos, c.nodes, 0);
@@ -60,14 +60,15 @@ fn or_one(n: usize) -> usize
 // The Ite i is done: its lists of a and b statements began at the sections x and y. Its word keeps how many they make.
 #[tactic(auto, unfolding(crate::specs::Width::orOne))]
 fn close_ite(t: &mut [u64], i: usize, a: u64, b: u64, x: usize, y: usize, c: Cursor) -> Step
-    requires { (i < length t.old) × (a < 64) × (b < 64) × (c.nodes ≤ mostNodes) × (Spans x y c.sections) }
+    requires { (i < length t.old) × (a < 2 ^ listBits) × (b < 2 ^ listBits) × (c.nodes ≤ mostNodes) × (Spans x y c.sections) }
     ensures { Closed t.old t.new i (iteWord a b (orOne (y - x)) (orOne (c.sections - y)) c.nodes) (joined x y c) result }
 {
     let v = or_one(y - x);
     let w = or_one(c.sections - y);
     let mut d = c;
     d.sections = x + v + w + 1;
-    let g = word(ITE, 0, a, b as usize + 64 * w, c.nodes, v);
+    let more = b + COUNTS * (w as u64);
+    let g = word(ITE, 0, a, more as usize, c.nodes, v);
     t[i] = g;
     Step::Next(0, d)
 }

@@ -7,7 +7,7 @@ use native.Mathlib.Numerals.{sub-one}
 use borrow.Author.Tests.{eq-eqb, ne_eqb, lt-ltb, le-ltb, le-leb, lt-leb}
 use lib.Dec.{eqb, ltb}
 use lib.ListN.{length, set}
-use Rattle.rules.specs.Constants.{mostBytes, mostDepth, form, head_bits, nameBits, byteBits}
+use Rattle.rules.specs.Constants.{mostBytes, mostDepth, form, head_bits, nameBits, listBits, byteBits}
 use Rattle.rules.specs.Refusal.{otherForm, zeroLines, leftOver, tooLong}
 use Rattle.rules.specs.Bits.{Res, refused, ok}
 use Rattle.rules.specs.Tree.{Block, Tree, ofLines, both, emptyTally}
@@ -92,7 +92,7 @@ lines_start n total s t ls c f =
     }
 
 module _ {n total : ℕ} {s t ls : List ℕ} {c d : Cursor} {k : ℕ} (m : LinesMid n total s t ls c d k) where
-  pub lines_more : {t' : List ℕ} {v : ℕ} {e : Cursor} (ls' : List ℕ) → k < total → k < length ls → ls' ≡ set ls k (v + 64 * d.nodes) → Built (listR n mostDepth) (HeldB s n) countB s t t' d d v e
+  pub lines_more : {t' : List ℕ} {v : ℕ} {e : Cursor} (ls' : List ℕ) → k < total → k < length ls → ls' ≡ set ls k (lineWord v d.nodes) → Built (listR n mostDepth) (HeldB s n) countB s t t' d d v e
       → LinesMid n total s t' ls' c e (k + 1)
   unfolding ofLines both lineWord widths
   lines_more {t' = t'} {v = v} {e = e} ls' h l w x =
@@ -107,8 +107,8 @@ module _ {n total : ℕ} {s t ls : List ℕ} {c d : Cursor} {k : ℕ} (m : Lines
         holds = λ u lu xs j b f y.
             m.holds u lu (x.val ∷ xs) j
             (agree_trans (agree-part x.kept (omega arith) (omega arith)) (agree-part b (omega arith) (omega arith)))
-            (agree_trans (set_below ls ls' k (v + 64 * d.nodes) w) (agree-part f (omega arith) (omega arith)))
-            (a-line v x.holds.few (f.same k (omega arith) (omega arith) ∙ set_here ls ls' k (v + 64 * d.nodes) w l) (moved-b (agree-part b (omega arith) (omega arith)) x.holds.is) refl y);
+            (agree_trans (set_below ls ls' k (lineWord v d.nodes) w) (agree-part f (omega arith) (omega arith)))
+            (a-line v x.holds.few (f.same k (omega arith) (omega arith) ∙ set_here ls ls' k (lineWord v d.nodes) w l) (moved-b (agree-part b (omega arith) (omega arith)) x.holds.is) refl y);
         counts = λ xs f y. m.counts (x.val ∷ xs) f (omega arith);
         many-lines = λ xs. m.many-lines (x.val ∷ xs) ∙ omega arith;
         after = omega arith;
@@ -253,7 +253,7 @@ lines-le : {t ls s : List ℕ} {m k i k' j : ℕ} {xs : List Block} → HoldsL t
 lines-le (no_line p q) = omega arith
 lines-le (a-line n f w b p l) = let h = lines-le l in omega arith
 
-line_same : (n n' i g : ℕ) → n < 64 → n' < 64 → g ≡ lineWord n i → g ≡ lineWord n' i → n ≡ n'
+line_same : (n n' i g : ℕ) → n < 2 ^ listBits → n' < 2 ^ listBits → g ≡ lineWord n i → g ≡ lineWord n' i → n ≡ n'
 unfolding lineWord
 line_same n n' i g a b e f = omega arith
 
@@ -263,7 +263,7 @@ lines_at p q l = rw (p, q) l
 cons_same : (x x' : Block) (y y' : List Block) → x ≡ x' → y ≡ y' → (x ∷ y) ≡ (x' ∷ y')
 cons_same x x' y y' p q = rw (p, q)
 
-pub one-lines : {t ls s : List ℕ} {m k i k' j j' : ℕ} {xs ys : List Block} → length s ≤ mostBytes → m ≤ 256 → HoldsL t ls s m k i xs k' j → HoldsL t ls s m k i ys k' j' → Same xs ys j j'
+pub one-lines : {t ls s : List ℕ} {m k i k' j j' : ℕ} {xs ys : List Block} → length s ≤ mostBytes → m ≤ 2 ^ nameBits → HoldsL t ls s m k i xs k' j → HoldsL t ls s m k i ys k' j' → Same xs ys j j'
 one-lines a c (no_line p q) (no_line p' q') = record { tree = refl; last = sym q ∙ q' }
 one-lines a c (no_line p q) (a-line n f w b z l) = absurd (let h = lines-le l in omega arith)
 one-lines a c (a-line n f w b z l) (no_line p q) = absurd (let h = lines-le l in omega arith)

@@ -1,6 +1,6 @@
 -- What the steps that read lines and the whole file give: they refuse as the readers of rules do, or the tables hold what those read.
 use Rattle.std.specs.Prelude.{◌≡◌, List, [], ◌∷◌, ℕ, ◌+◌, ◌-◌, ◌*◌, ◌/◌, ◌%◌, ◌^◌, ◌≤◌, ◌<◌, length, get_or}
-use Rattle.rules.specs.Constants.{byteBits, head_bits, mostLines, mostNames}
+use Rattle.rules.specs.Constants.{byteBits, head_bits, listBits, mostLines, mostNames}
 use Rattle.rules.specs.Bits.{Res, refused, ok}
 use Rattle.rules.specs.Tree.{Name, Block, Tree, ofLines}
 use Rattle.rules.specs.Parse.{At, many, body, fill, file, parse, lineBlock}
@@ -18,14 +18,14 @@ use Rattle.tree.specs.declared.Sizes.{Sizes}
 use Rattle.tree.specs.declared.SizeAnswer.{SizeAnswer}
 use Rattle.tree.specs.declared.SizeAnswer.TheVariants.{Sized, Refused as No}
 
--- a line's word: its count of statements (6 bits), its first node
+-- a line's word: its count of statements, its first node
 unfoldable pub lineWord : ℕ → ℕ → ℕ
-lineWord n i = n + 64 * i
+lineWord n i = n + 2 ^ listBits * i
 
 -- the tables t and ls hold the lines k to k', from node i to node j
 pub data HoldsL (t ls s : List ℕ) (m : ℕ) : ℕ → ℕ → List Block → ℕ → ℕ → Type 0 where
   no_line : {k i k' j : ℕ} → k ≡ k' → i ≡ j → HoldsL t ls s m k i [] k' j
-  a-line : {k h i l k' j : ℕ} {b : Block} {bs : List Block} (n : ℕ) → n < 64 → get_or ls k 0 ≡ lineWord n i → HoldsB t s m n i b l → h ≡ k + 1 → HoldsL t ls s m h l bs k' j → HoldsL t ls s m k i (b ∷ bs) k' j
+  a-line : {k h i l k' j : ℕ} {b : Block} {bs : List Block} (n : ℕ) → n < 2 ^ listBits → get_or ls k 0 ≡ lineWord n i → HoldsB t s m n i b l → h ≡ k + 1 → HoldsL t ls s m h l bs k' j → HoldsL t ls s m k i (b ∷ bs) k' j
 
 -- the sections of all lines, one by one
 unfoldable pub widths : List Block → ℕ

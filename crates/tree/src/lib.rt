@@ -22,7 +22,7 @@ use params::refusal::{LEFT_OVER, OTHER_FORM, TOO_LONG, ZERO_LINES};
 const HEAD_VALUES: u64 = 1 << HEAD_BITS;
 
 // A line's word is its count of statements, below this, and its first node.
-pub const LINE_COUNTS: u64 = 64;
+pub const LINE_COUNTS: u64 = 1 << LIST_BITS;
 
 // A file of so few bytes is read by a smaller table, which takes less time to clear: a node takes two bits at least.
 pub const SMALL_BYTES: usize = 64;

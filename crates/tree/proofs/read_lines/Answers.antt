@@ -1,5 +1,6 @@
 -- One line more, unless it is refused.
 use Rattle.std.proofs.Common.{arith, refl}
+use Rattle.tree.specs.Files.{lineWord}
 use Rattle.tree.proofs.Laws.{lines_start, lines_more, lines-stop, lines-done}
 use Rattle.tree.proofs.read_lines.Goals as goal
 
@@ -13,6 +14,7 @@ pub returns-in_default : goal.returns-in_default
 returns-in_default c = rw c.in_default.is (record { here = lines-stop c.loop-k.invariant.1 c.loop-k-test.true c.in_default.ensures.here })
 
 pub loop-k-preserved : goal.loop-k-preserved
+unfolding lineWord
 loop-k-preserved c = (omega arith, lines_more c.loop-k.invariant.1 _ c.loop-k-test.true (omega arith) refl c.in-Next.ensures.here)
 
 pub returns : goal.returns
