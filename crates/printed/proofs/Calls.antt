@@ -4,8 +4,7 @@ use mathlib.Core.Bool.{Bool, true, false}
 use mathlib.Core.List.{List}
 use Prim.Native.Nat.{ℕ, ◌≤◌}
 use native.Mathlib.Omega.{arith}
-use lib.ListN.{length, take, drop, length-append}
-use lib.Seq.{length-take-le}
+use lib.ListN.{length}
 use Rattle.rules.specs.Bits.{Res, refused, ok}
 use Rattle.rules.specs.Refusal as Refusal
 use Rattle.rules.specs.Tree.{Tree}
@@ -14,7 +13,8 @@ use Rattle.rules.specs.Machine.{Machine}
 use Rattle.rules.specs.Tables.{Tables, Counts, fits, decode, countsOf}
 use Rattle.rules.specs.Lowered.{Options, defaults, spans, texts, assemble, lowered, finished}
 use Rattle.rules.specs.Operations.{size_of, estimate, holds, build, finish}
-use Rattle.rules.specs.Listing.{listing, refusal}
+use Rattle.rules.specs.Constants.{finlistBytes}
+use Rattle.rules.specs.Listing.{listing, refusal, finlist}
 use Rattle.rules.specs.Annotate.{annotate}
 use Rattle.rules.specs.Replace.{replaced}
 use Rattle.rules.specs.Clean.{cleaned}
@@ -30,8 +30,8 @@ use Rattle.text.specs.Wrote.{Room, Wrote, Prints}
 use Rattle.listing.specs.Listed.{Lists, Listed}
 use Rattle.text.proofs.Writes.{from_start}
 use Rattle.listing.proofs.Machines.{one-machine}
-use Rattle.printed.specs.Printed.{mostCharacters, printed, Bounded}
-use Rattle.printed.proofs.Lengths.{mostPrinted, refusal_length, listing-length}
+use Rattle.printed.proofs.Lengths.{mostCharacters, mostPrinted, refusal_length, listing-length}
+use Rattle.printed.proofs.Files.{Lent, refused-file, file}
 
 -- ---- words that hold a machine keep the rules
 
@@ -45,38 +45,38 @@ fits-so t u m e = go (fits t u) refl
 
 -- ---- by the file
 
-module _ (o : Options) (s : List ℕ) (t t' : Tables) where
-  pub refused-prints : (n : ℕ) → (refused n, t') ≡ finish o s t → refusal n ≡ printed s t
-  unfolding finish build printed
-  refused-prints n e = by-tree (parse s) refl
-    where
-      by-room : (x : Tree) → parse s ≡ ok x → (b : Bool) → holds t (estimate (size_of x)) ≡ b → refusal n ≡ printed s t
-      by-room x p false q = rw (p, printed, q) (let r : refused n ≡ refused Refusal.noRoom = ap (λ (z : Res Counts × Tables). z.0) (rw (p, build, q) at e) in let k : n ≡ Refusal.noRoom = cc in ap refusal k)
-      by-room x p true q = absurd (refused≢ok n _ (ap (λ (z : Res Counts × Tables). z.0) (rw (p, build, q) at e)))
+module _ (o : Options) (s : List ℕ) (t t' : Tables) (u : Counts) (e : (ok u, t') ≡ finish o s t) where
+  pub its : Finishes o s t u
+  its = finishes o s t u (sym (ap (λ (z : Res Counts × Tables). z.0) e))
 
-      by-tree : (p : Res Tree) → parse s ≡ p → refusal n ≡ printed s t
-      by-tree (refused k) p = rw (p, printed) (let r : refused n ≡ refused k = ap (λ (z : Res Counts × Tables). z.0) (rw (p, build) at e) in let j : n ≡ k = cc in ap refusal j)
-      by-tree (ok x) p = by-room x p (holds t (estimate (size_of x))) refl
-
-  module _ (u : Counts) (e : (ok u, t') ≡ finish o s t) where
-    pub its : Finishes o s t u
-    its = finishes o s t u (sym (ap (λ (z : Res Counts × Tables). z.0) e))
-
-    pub machine-is : decode t' u ≡ ok (finished o its.tree)
-    machine-is = ap (λ (z : Res Counts × Tables). decode z.1 u) e ∙ its.machine
+  pub machine-is : decode t' u ≡ ok (finished o its.tree)
+  machine-is = ap (λ (z : Res Counts × Tables). decode z.1 u) e ∙ its.machine
 
 -- finlist finishes with the default options
-module _ (s : List ℕ) (t t' : Tables) (u : Counts) (e : (ok u, t') ≡ finish defaults s t) where
-  abbrev tree_is : Finishes defaults s t u
-  tree_is = its defaults s t t' u e
-
-  pub done-prints : listing (finished defaults tree_is.tree) ≡ printed s t
-  unfolding finish build printed
-  done-prints = by-room (holds t (estimate (size_of tree_is.tree))) refl
+module _ (s : List ℕ) (t t' : Tables) (short : length s ≤ finlistBytes) (l : Lent t) where
+  pub refused-prints : (n : ℕ) → (refused n, t') ≡ finish defaults s t → refusal n ≡ finlist s
+  unfolding finish build
+  refused-prints n e = by-tree (parse s) refl
     where
-      by-room : (b : Bool) → holds t (estimate (size_of tree_is.tree)) ≡ b → listing (finished defaults tree_is.tree) ≡ printed s t
-      by-room true q = rw (tree_is.parsed, printed, q)
-      by-room false q = absurd (refused≢ok Refusal.noRoom u (sym (ap (λ (z : Res Counts × Tables). z.0) (rw (tree_is.parsed, build, q) at e))))
+      by-room : (x : Tree) → parse s ≡ ok x → (b : Bool) → holds t (estimate (size_of x)) ≡ b → refusal n ≡ finlist s
+      by-room x p false q = rw (file s x p false short l q) (let r : refused n ≡ refused Refusal.noRoom = ap (λ (z : Res Counts × Tables). z.0) (rw (p, build, q) at e) in let k : n ≡ Refusal.noRoom = cc in ap refusal k)
+      by-room x p true q = absurd (refused≢ok n _ (ap (λ (z : Res Counts × Tables). z.0) (rw (p, build, q) at e)))
+
+      by-tree : (p : Res Tree) → parse s ≡ p → refusal n ≡ finlist s
+      by-tree (refused k) p = rw (refused-file s k short p) (let r : refused n ≡ refused k = ap (λ (z : Res Counts × Tables). z.0) (rw (p, build) at e) in let j : n ≡ k = cc in ap refusal j)
+      by-tree (ok x) p = by-room x p (holds t (estimate (size_of x))) refl
+
+  module _ (u : Counts) (e : (ok u, t') ≡ finish defaults s t) where
+    abbrev tree_is : Finishes defaults s t u
+    tree_is = its defaults s t t' u e
+
+    pub done-prints : listing (finished defaults tree_is.tree) ≡ finlist s
+    unfolding finish build
+    done-prints = by-room (holds t (estimate (size_of tree_is.tree))) refl
+      where
+        by-room : (b : Bool) → holds t (estimate (size_of tree_is.tree)) ≡ b → listing (finished defaults tree_is.tree) ≡ finlist s
+        by-room true q = sym (file s tree_is.tree tree_is.parsed true short l q)
+        by-room false q = absurd (refused≢ok Refusal.noRoom u (sym (ap (λ (z : Res Counts × Tables). z.0) (rw (tree_is.parsed, build, q) at e))))
 
 -- the tables that bound a listing are as long as they were
 pub record SameLengths (t t' : Tables) : Type 0 where
@@ -104,30 +104,21 @@ module _ (p : Options) (x : Tree) where
   unfolding finished combined cleaned assemble
   spans-are = strings-stay p x
 
-  few-characters : (s : List ℕ) → parse s ≡ ok x → length (texts its-texts) ≤ mostCharacters
+  few-texts : (s : List ℕ) → parse s ≡ ok x → length (texts its-texts) ≤ mostCharacters
   unfolding countsOf lowered replaced assemble
-  few-characters s e = (small p s x e).pool
+  few-texts s e = (small p s x e).pool
 
-pub lists : (p : Options) (s : List ℕ) (t t' : Tables) (u : Counts) → (ok u, t') ≡ finish p s t → (o : List ℕ) → length o ≡ mostPrinted → Bounded t → SameLengths t t' → Lists t' u o
+pub lists : (p : Options) (s : List ℕ) (t t' : Tables) (u : Counts) → (ok u, t') ≡ finish p s t → (o : List ℕ) → length o ≡ mostPrinted → Lent t → SameLengths t t' → Lists t' u o
 lists p s t t' u e o w y l =
     let x = (its p s t t' u e).tree in
     let m = machine-is p s t t' u e in
     let h = fits-so t' u _ m in
     let c = (sound t' u h).counts in
-    let k = few-characters p x s (its p s t t' u e).parsed in
+    let k = few-texts p x s (its p s t t' u e).parsed in
     let are = ap (λ (z : Machine). z.strings) (one-machine t' u h _ m) ∙ spans-are p x in
     let b = listing-length t' u h (its-texts p x) are (length-spans 0 (its-texts p x)) (omega arith) (omega (arith, l.names, y.names, c.names)) in
     let few : length (listing (machine_of t' u)) ≤ length o = omega (arith, l.sections, l.instrs, l.numbers, l.strings, l.names, y.sections, y.instrs, y.numbers, y.strings, y.names, c.sections, c.instrs, c.numbers, c.strings, c.names) in
     record { machine = h; room = λ n d. subst (λ (z : Machine). length (listing z) ≤ length o) (one-machine t' u h n d) few }
 
-pub listed-prints : (s : List ℕ) (t t' : Tables) (u : Counts) (e : (ok u, t') ≡ finish defaults s t) {o o' : List ℕ} {r : ℕ} → Listed t' u o o' r → Prints o o' r (printed s t)
-listed-prints s t t' u e l = prints-as (l.prints _ (machine-is defaults s t t' u e)) (done-prints s t t' u e)
-
--- ---- what a caller takes of the bytes
-
-module _ {o o' : List ℕ} {r : ℕ} {bs : List ℕ} where
-  pub within : Prints o o' r bs → r ≤ length o'
-  within p = rw (p.text, length-append bs (drop r o)) (omega (arith, p.size))
-
-  pub all-printed : Prints o o' r bs → r ≡ length (take r o')
-  all-printed p = sym (length-take-le r o' (within p))
+pub listed-prints : (s : List ℕ) (t t' : Tables) (u : Counts) → length s ≤ finlistBytes → Lent t → (e : (ok u, t') ≡ finish defaults s t) → {o o' : List ℕ} {r : ℕ} → Listed t' u o o' r → Prints o o' r (finlist s)
+listed-prints s t t' u h l e d = prints-as (d.prints _ (machine-is defaults s t t' u e)) (done-prints s t t' h l u e)

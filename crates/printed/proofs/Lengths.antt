@@ -10,7 +10,7 @@ use lib.IntN.{ℤ, pos, negsuc}
 use lib.ListN.{length, take, drop, length-append, length-map, length-take, take-append-drop}
 use borrow.Author.Tests.{lt-ltb}
 use lib.Seq.{length-take-le}
-use Rattle.rules.specs.Constants.{mark, mostNodes, finlistSections, finlistInstrs, finlistNumbers, mostNames}
+use Rattle.rules.specs.Constants.{mark, mostBytes, charBits, byteBits, mostNodes, finlistSections, finlistInstrs, finlistNumbers, mostNames}
 use Rattle.rules.specs.Bits.{isOne}
 use Rattle.rules.specs.Word.{wordIns, wordRun}
 use Rattle.rules.specs.Machine.{SectionCode}
@@ -23,7 +23,6 @@ use Rattle.tables.specs.Runs.{count_of, sectionOf, held}
 use Rattle.tables.proofs.Sound.{sound}
 use Rattle.tables.proofs.Read.{read-nil, read-cons, count-is}
 use Rattle.tables.proofs.Change.{machine_of}
-use Rattle.printed.specs.Printed.{mostCharacters}
 
 -- ---- fields
 
@@ -161,6 +160,10 @@ sections-length i (w ∷ ws) is l =
     rw (read-cons w ws is) (omega (arith, subst (λ (x : ℕ). length (drop x is) ≡ length (drop n is)) (sym c) refl))
 
 -- ---- the listing
+
+-- the characters of a file's strings at most: as many as the bits of the longest tree file hold
+abbrev pub mostCharacters : ℕ
+mostCharacters = mostBytes * byteBits / charBits
 
 -- the longest that finlist prints: the row M, and those of numbers, texts, names, sections and instructions
 abbrev pub mostPrinted : ℕ

@@ -1,3 +1,3 @@
 pub mod Lengths
-pub mod Calls
 pub mod Files
+pub mod Calls
