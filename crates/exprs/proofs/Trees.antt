@@ -4,7 +4,7 @@ use mathlib.Core.List.{List}
 use Prim.Native.Nat.{ℕ, ◌+◌, ◌*◌, ◌/◌, ◌%◌, ◌≤◌, ◌<◌}
 use native.Mathlib.Omega.{arith}
 use lib.ListN.{length, get_or}
-use Rattle.rules.specs.Constants.{mostBytes, numberBits, charBits, byteBits}
+use Rattle.rules.specs.Constants.{mostBytes, mostNames, numberBits, charBits, byteBits}
 use Rattle.rules.specs.Bits.{spelled, isOne}
 use Rattle.rules.specs.Tree.{Binop, Unop, Expr, binop, unop, ident, number, string, ofExpr, node, both, emptyTally}
 use Rattle.rules.specs.Tree.{And, Or, Add, Sub, Mul, Div, Mod, Pow, Eq, Ne, Le, Lt, Ge, Gt}
@@ -67,7 +67,7 @@ expr-most (string t) = omega arith
 -- ---- fields
 
 -- where the expression ends
-pub last-held : {t s : List ℕ} {m i j : ℕ} {e : Expr} → length s ≤ mostBytes → m ≤ 256 → HoldsE t s m i e j → get_or t i 0 / 281474976710656 ≡ j
+pub last-held : {t s : List ℕ} {m i j : ℕ} {e : Expr} → length s ≤ mostBytes → m ≤ mostNames → HoldsE t s m i e j → get_or t i 0 / 281474976710656 ≡ j
 unfolding binops unops
 last-held a c (at-binop op o p w q l r) = let y = op-small binops op p in (unpacked _ _ _ _ _ _ _ (omega arith) w).last-is
 last-held a c (at-unop op o p w q r) = let y = op-small unops op p in (unpacked _ _ _ _ _ _ _ (omega arith) w).last-is
@@ -93,7 +93,7 @@ begins p h = rw p at h
 ends : {t s : List ℕ} {m i j j' : ℕ} {e : Expr} → j ≡ j' → HoldsE t s m i e j → HoldsE t s m i e j'
 ends p h = rw p at h
 
-pub binop-at : {t s : List ℕ} {m i j : ℕ} {e : Expr} → length s ≤ mostBytes → m ≤ 256 → HoldsE t s m i e j → get_or t i 0 % 16 ≡ binopKind → BinopAt t s m i e j
+pub binop-at : {t s : List ℕ} {m i j : ℕ} {e : Expr} → length s ≤ mostBytes → m ≤ mostNames → HoldsE t s m i e j → get_or t i 0 % 16 ≡ binopKind → BinopAt t s m i e j
 unfolding binops
 binop-at {t} {i = i} a c h k =
     let b = is-binop h k in
@@ -142,7 +142,7 @@ pub record IncdecAt (w m : ℕ) (e : Expr) : Type 0 where
   pub is : e ≡ Expr.incdec (isOne (w / 16 % 16)) (w / 256 % 256)
   pub known : w / 256 % 256 < m
 
-pub incdec-at : {t s : List ℕ} {m i j w : ℕ} {e : Expr} → m ≤ 256 → HoldsE t s m i e j → get_or t i 0 ≡ w → w % 16 ≡ incdecKind → IncdecAt w m e
+pub incdec-at : {t s : List ℕ} {m i j w : ℕ} {e : Expr} → m ≤ mostNames → HoldsE t s m i e j → get_or t i 0 ≡ w → w % 16 ≡ incdecKind → IncdecAt w m e
 incdec-at c h q k =
     let b = is-incdec h (rw q k) in
     let g = b.flag in
@@ -153,7 +153,7 @@ pub record IdentAt (w m : ℕ) (e : Expr) : Type 0 where
   pub is : e ≡ ident (w / 256 % 256)
   pub known : w / 256 % 256 < m
 
-pub ident-at : {t s : List ℕ} {m i j w : ℕ} {e : Expr} → m ≤ 256 → HoldsE t s m i e j → get_or t i 0 ≡ w → w % 16 ≡ identKind → IdentAt w m e
+pub ident-at : {t s : List ℕ} {m i j w : ℕ} {e : Expr} → m ≤ mostNames → HoldsE t s m i e j → get_or t i 0 ≡ w → w % 16 ≡ identKind → IdentAt w m e
 ident-at c h q k =
     let b = is-ident h (rw q k) in
     let g = b.known in

@@ -1,6 +1,6 @@
 -- What lowering an expression of the node table asks and does.
 use Rattle.std.specs.Prelude.{◌≡◌, List, ℕ, ◌+◌, ◌*◌, ◌≤◌, ◌<◌, ◌%◌, length, get_or}
-use Rattle.rules.specs.Constants.{mostBytes, numberBits, charBits, byteBits}
+use Rattle.rules.specs.Constants.{mostBytes, mostNames, numberBits, charBits, byteBits}
 use Rattle.rules.specs.Tree.{Expr, binop, unop, ident, number, string, ofExpr}
 use Rattle.rules.specs.Annotate.{codegenFromExpr}
 use Rattle.nodes.specs.Words.{binopKind, unopKind}
@@ -35,7 +35,7 @@ pub record Ready (s t : List ℕ) (i : ℕ) (c : Counters) (il nl sl pl ml : ℕ
   pub held : HoldsE t s names i tree last
   pub inside : last ≤ length t
   pub short : length s ≤ mostBytes
-  pub few : names ≤ 256
+  pub few : names ≤ mostNames
   pub fits : Fits tree names c il nl sl pl ml
 
 -- the same of a word without operands
@@ -50,7 +50,7 @@ pub record LeafReady (s : List ℕ) (w : ℕ) (c : Counters) (il nl sl pl ml : �
   pub no-binop : w % 16 ≡ binopKind → ⊥
   pub no-unop : w % 16 ≡ unopKind → ⊥
   pub short : length s ≤ mostBytes
-  pub few : names ≤ 256
+  pub few : names ≤ mostNames
   pub fits : Fits tree names c il nl sl pl ml
 
 -- the expression e of a tree with n names is lowered: from c and t to c' and t', its value register is a

@@ -16,7 +16,6 @@ use Rattle.rules.specs.Assemble.{stmtSections, sectionsMade, entry, asStart}
 use Rattle.rules.specs.CodegenData.{CodegenData}
 use Rattle.rules.specs.Annotate.{annotateStmts}
 use Rattle.bounds.specs.Lengths.{length-low}
-use Rattle.words.specs.Runs as Runs
 use Rattle.nodes.specs.Width.{width}
 use Rattle.codegen.specs.declared.state.Counters.{Counters}
 use Rattle.codegen.specs.Does.{Lent}

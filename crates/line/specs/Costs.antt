@@ -1,14 +1,14 @@
 -- How many instructions a node gives by its word, and the nodes of a range. The first sections of all lines stand first in the table of
 -- instructions, so their own instructions are counted before lowering starts.
-use Rattle.std.specs.Prelude.{cond, List, ℕ, zero, suc, ◌+◌, ◌/◌, ◌%◌, ◌≤◌, ◌<◌, eqb, length, get_or}
-use Rattle.rules.specs.Constants.{mostBytes}
-use Rattle.nodes.specs.Holds.{HoldsB}
-use Rattle.rules.specs.Tree.{Gt, Atan, PowTo, Block}
+use Rattle.std.specs.Prelude.{cond, List, ℕ, zero, suc, ◌+◌, ◌/◌, ◌%◌, ◌≤◌, ◌<◌, eqb, get_or}
+use Rattle.rules.specs.Constants.{mostNodes}
+use Rattle.rules.specs.Tree.{Gt, Atan, PowTo}
 use Rattle.rules.specs.Parse.{binops, unops, assignops}
 use Rattle.nodes.specs.Words.{binopKind, unopKind, assignKind, identKind, numberKind, stringKind, iteKind}
 use Rattle.codegen.specs.Costs.{binopCost, unopCost}
 use Rattle.stmts.specs.Told.{assignCost}
 use Rattle.stmts.specs.Makes.{jumpCost}
+use Rattle.stmts.specs.Lists.{Held}
 
 -- by kind, operator and name (of an Ite: its then-list's count)
 unfoldable pub kindCost : ℕ → ℕ → ℕ → ℕ
@@ -26,16 +26,15 @@ unfoldable pub costs : List ℕ → ℕ → ℕ → ℕ
 costs t i zero = 0
 costs t i (suc n) = nodeCost (get_or t i 0) + costs t (i + 1) n
 
--- a list with a statement is held at node i
-pub record ListAt (t : List ℕ) (i : ℕ) : Type 0 where
+-- a list of `count` statements is held at node i of a tree's table, however deep
+pub record ListAt (t : List ℕ) (i count : ℕ) : Type 0 where
   pub file : List ℕ
-  pub known : ℕ
+  pub depth : ℕ
+  pub list : Held file t i count depth
+  pub small : list.last ≤ mostNodes
+
+-- and there is a statement
+pub record SomeAt (t : List ℕ) (i : ℕ) : Type 0 where
   pub count : ℕ
-  pub block : Block
-  pub last : ℕ
-  pub held : HoldsB t file known count i block last
+  pub at : ListAt t i count
   pub some : 0 < count
-  pub short : length file ≤ mostBytes
-  pub few : known ≤ 256
-  pub inside : last ≤ length t
-  pub small : last ≤ 2048

@@ -2,7 +2,6 @@
 use Rattle.std.specs.Prelude.{◌≡◌, true, List, [], ◌∷◌, map, ℕ, ◌+◌, ◌*◌, ◌≤◌, ◌<◌, length}
 use Rattle.std.proofs.lemmas.List.Edits.{sets}
 use Rattle.rules.specs.Word.{insWord}
-use Rattle.rules.specs.Constants.{mostBytes}
 use Rattle.rules.specs.Tree.{Block, Tally, ofBlock}
 use Rattle.rules.specs.Machine.{SectionCode}
 use Rattle.rules.specs.Tables.{runWords, allCode}
@@ -11,11 +10,10 @@ use Rattle.rules.specs.Assemble.{stmtSections, head_of, tailOf}
 use Rattle.rules.specs.CodegenData.{CodegenData}
 use Rattle.rules.specs.Annotate.{annotateStmts}
 use Rattle.nodes.specs.Width.{width}
-use Rattle.nodes.specs.Holds.{HoldsB}
 use Rattle.codegen.specs.declared.state.Counters.{Counters}
 use Rattle.codegen.specs.Does.{Lent}
 use Rattle.stmts.specs.Makes.{Regs, placed}
-use Rattle.stmts.specs.Lists.{rest, deep, Ample}
+use Rattle.stmts.specs.Lists.{rest, ListReady}
 use Rattle.stmts.specs.Parts.{ownCost, insideTally}
 
 -- the nodes behind the first statement's own
@@ -34,16 +32,8 @@ pub record Parted (hs ts : List SectionCode) (line n head at head' at' : ℕ) (i
 -- a line of `count` statements is held at node i, and there is room for it: for its first section's instructions from `head` on, for the others
 -- from the cursor on, for its other sections from number j on
 pub record LineReady (s t : List ℕ) (i count depth line j head : ℕ) (c : Counters) (il nl sl pl ml zl : ℕ) : Type 0 where
-  pub known : ℕ
-  pub block : Block
-  pub last : ℕ
-  pub held : HoldsB t s known count i block last
-  pub inside : last ≤ length t
-  pub short : length s ≤ mostBytes
-  pub few : known ≤ 256
-  pub shallow : deep block ≤ depth
-  pub ample : Ample (ofBlock block) (width block) known j (placed c head) il nl sl pl ml zl
-  pub behind : c.at + 9 * innerNodes block ≤ il
+  pub ready : ListReady s t i count depth j (placed c head) il nl sl pl ml zl
+  pub behind : c.at + 9 * innerNodes ready.list.block ≤ il
   pub slot : line < zl
 
 -- what a line counted: n nodes behind the own ones of its first statement, k in all

@@ -4,13 +4,13 @@
 // `stmts`). A caller owes operators of 4 bits and a range within the table.
 ghost use Rattle.std.specs.Prelude.{◌≡◌, List, ℕ, ◌-◌, ◌≤◌, ◌<◌, length, get_or};
 ghost use Rattle.rules.specs.Tree.{Gt, Atan, PowTo, Block};
-ghost use Rattle.rules.specs.Constants.{mostBytes};
+ghost use Rattle.rules.specs.Constants.{mostBytes, mostNames};
 ghost use Rattle.nodes.specs.Holds.{HoldsB};
 ghost use Rattle.rules.specs.Parse.{binops, unops, assignops};
 ghost use Rattle.codegen.specs.Costs.{binopCost, unopCost};
 ghost use Rattle.stmts.specs.Told.{assignCost};
 ghost use Rattle.stmts.specs.Parts.{ownCost};
-ghost use Rattle.line.specs.Costs.{nodeCost, costs, ListAt};
+ghost use Rattle.line.specs.Costs.{nodeCost, costs, SomeAt};
 
 use nodes::kinds::{ASSIGN, BINOP, IDENT, ITE, NUMBER, STRING, UNOP};
 use nodes::layout::{KINDS, LAST, NAME, NAMES, OP, OPS};
@@ -115,8 +115,8 @@ pub fn sum_costs(nodes: &[u64], i: usize, end: usize) -> usize
 
 // Of the first statement of the list at node i, without the lists that it holds: an Ite's condition ends where its first node says.
 pub fn own_cost(nodes: &[u64], i: usize) -> usize
-    requires { ListAt nodes.now i }
-    ensures { (s : List ℕ) (m n : ℕ) (x : Block) (z : ℕ) → length s ≤ mostBytes → m ≤ 256 → 0 < n → HoldsB nodes.now s m n i x z → result ≡ ownCost x }
+    requires { SomeAt nodes.now i }
+    ensures { (s : List ℕ) (m n : ℕ) (x : Block) (z : ℕ) → length s ≤ mostBytes → m ≤ mostNames → 0 < n → HoldsB nodes.now s m n i x z → result ≡ ownCost x }
 {
     let w = nodes[i];
     if w % KINDS == ITE {

@@ -1,12 +1,11 @@
 -- All lines: their first sections stand at the lines' numbers, their others behind, and so do the instructions.
-use Rattle.std.specs.Prelude.{◌≡◌, List, [], ◌∷◌, ℕ, ◌+◌, ◌*◌, ◌/◌, ◌%◌, ◌≤◌, ◌<◌, max, length}
-use Rattle.rules.specs.Constants.{mostBytes, mostDepth, mostNodes}
+use Rattle.std.specs.Prelude.{◌≡◌, List, [], ◌∷◌, ℕ, ◌+◌, ◌*◌, ◌≤◌, ◌<◌, max, length}
+use Rattle.rules.specs.Constants.{mostBytes, mostNames, mostDepth, mostNodes}
 use Rattle.rules.specs.Tree.{Block, ofLines}
 use Rattle.rules.specs.Script.{Script}
 use Rattle.rules.specs.Assemble.{heads, tails}
 use Rattle.rules.specs.CodegenData.{CodegenData}
 use Rattle.rules.specs.Annotate.{annotateLines}
-use Rattle.nodes.specs.Holds.{HoldsB}
 use Rattle.tree.specs.Files.{HoldsL, widths}
 use Rattle.codegen.specs.declared.state.Counters.{Counters}
 use Rattle.words.specs.declared.instr.Section.{Section}
@@ -34,32 +33,24 @@ deepest (b ∷ bs) = max (deep b) (deepest bs)
 abbrev pub aimedAt : Counters → Section → Counters
 aimedAt c e = record { at = c.at; numbers = c.numbers; strings = c.strings; chars = c.chars; values = c.values; err = e }
 
--- all L lines are held
-pub record LinesAt (t ls : List ℕ) (L : ℕ) : Type 0 where
-  pub file : List ℕ
+-- the lines from line k to line L are held in the tables t and ls over the file s
+pub record HeldLines (s t ls : List ℕ) (k L : ℕ) : Type 0 where
   pub known : ℕ
   pub blocks : List Block
   pub first : ℕ
   pub last : ℕ
-  pub held : HoldsL t ls file known 0 first blocks L last
+  pub held : HoldsL t ls s known k first blocks L last
   pub inside : last ≤ length t
-  pub small : last ≤ mostNodes
-  pub short : length file ≤ mostBytes
-  pub few : known ≤ 256
+  pub short : length s ≤ mostBytes
+  pub few : known ≤ mostNames
   pub words : L ≤ length ls
-  pub few-nodes : (ofLines blocks).nodes ≤ mostNodes
 
--- a line's word, and the statements that it names are held
-pub record HeadReady (t : List ℕ) (w : ℕ) : Type 0 where
+-- all L lines are held
+pub record LinesAt (t ls : List ℕ) (L : ℕ) : Type 0 where
   pub file : List ℕ
-  pub known : ℕ
-  pub block : Block
-  pub last : ℕ
-  pub held : HoldsB t file known (w % 64) (w / 64) block last
-  pub inside : last ≤ length t
-  pub small : last ≤ mostNodes
-  pub short : length file ≤ mostBytes
-  pub few : known ≤ 256
+  pub lines : HeldLines file t ls 0 L
+  pub small : lines.last ≤ mostNodes
+  pub few-nodes : (ofLines lines.blocks).nodes ≤ mostNodes
 
 -- `sum` counts the lines before line k: with the others it counts all
 pub record Summed (t ls s : List ℕ) (m L k sum : ℕ) (bs : List Block) (z : ℕ) : Type 0 where
@@ -69,23 +60,15 @@ pub record Summed (t ls s : List ℕ) (m L k sum : ℕ) (bs : List Block) (z : �
   pub all : sum + ownCosts rest ≡ ownCosts bs
 
 pub record CostsMid (t ls : List ℕ) (L k sum : ℕ) : Type 0 where
-  pub sums : (s : List ℕ) (m : ℕ) (bs : List Block) (i z : ℕ) → length s ≤ mostBytes → m ≤ 256 → HoldsL t ls s m 0 i bs L z → Summed t ls s m L k sum bs z
+  pub sums : (s : List ℕ) (m : ℕ) (bs : List Block) (i z : ℕ) → length s ≤ mostBytes → m ≤ mostNames → HoldsL t ls s m 0 i bs L z → Summed t ls s m L k sum bs z
 
 -- and there is room for them: for their first sections' instructions from `head` on, for the others from the cursor on
 pub record LinesReady (s t ls : List ℕ) (k L number head : ℕ) (c : Counters) (il nl sl pl ml zl : ℕ) : Type 0 where
-  pub known : ℕ
-  pub blocks : List Block
-  pub first : ℕ
-  pub last : ℕ
-  pub held : HoldsL t ls s known k first blocks L last
-  pub inside : last ≤ length t
-  pub short : length s ≤ mostBytes
-  pub few : known ≤ 256
-  pub words : L ≤ length ls
+  pub lines : HeldLines s t ls k L
   pub few-lines : L < 256
-  pub shallow : deepest blocks ≤ mostDepth
-  pub ample : Ample (ofLines blocks) (widths blocks) known number (placed c head) il nl sl pl ml zl
-  pub behind : c.at + 9 * innerAll blocks ≤ il
+  pub shallow : deepest lines.blocks ≤ mostDepth
+  pub ample : Ample (ofLines lines.blocks) (widths lines.blocks) lines.known number (placed c head) il nl sl pl ml zl
+  pub behind : c.at + 9 * innerAll lines.blocks ≤ il
   pub first-lines : L ≤ number
 
 -- their sections are made
@@ -109,4 +92,4 @@ pub record Going (s t ls : List ℕ) (m L : ℕ) (bs : List Block) (z n0 head0 :
 
 pub record LinesMid (s t ls : List ℕ) (L n0 head0 : ℕ) (c0 : Counters) (t0 : Lent) (se0 : List ℕ) (k n head : ℕ) (c : Counters) (t1 : Lent) (se : List ℕ) : Type 0 where
   pub ready : LinesReady s t ls k L n head c (length t1.instrs) (length t1.numbers) (length t1.strings) (length t1.pool) (length t1.names) (length se)
-  pub going : (m : ℕ) (bs : List Block) (i z : ℕ) → m ≤ 256 → HoldsL t ls s m 0 i bs L z → Going s t ls m L bs z n0 head0 c0 t0 se0 k n head c t1 se
+  pub going : (m : ℕ) (bs : List Block) (i z : ℕ) → m ≤ mostNames → HoldsL t ls s m 0 i bs L z → Going s t ls m L bs z n0 head0 c0 t0 se0 k n head c t1 se

@@ -10,13 +10,12 @@ use lib.ListN.{length, set, length-append}
 use Rattle.rules.specs.Word.{insWord, runWord}
 use Rattle.rules.specs.Tree.{Block, end, ite, assign}
 use Rattle.rules.specs.Machine.{SectionOrLine, section, SectionCode}
-use Rattle.rules.specs.Tables.{sectionRun, runWords, allCode, runOf}
+use Rattle.rules.specs.Tables.{runWords, allCode, runOf}
 use Rattle.rules.specs.Script.{Stmts, nil, plain, isNil}
 use Rattle.rules.specs.Assemble.{orOne, sectionsMade, entry, link, inner, orEmpty, stmtSections, ownCode, cond_code}
 use Rattle.rules.specs.CodegenData.{CodegenData, scoped}
 use Rattle.rules.specs.Annotate.{annotateStmts, condition}
 use Rattle.bounds.specs.Lengths.{length-low}
-use Rattle.words.specs.Runs as Runs
 use Rattle.nodes.specs.Width.{width, orOne as orOneN}
 use Rattle.codegen.specs.declared.state.Counters.{Counters}
 use Rattle.codegen.specs.Does.{Lent}

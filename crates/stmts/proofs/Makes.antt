@@ -14,7 +14,6 @@ use Rattle.rules.specs.Machine.{SectionOrLine}
 use Rattle.rules.specs.Tables.{sectionRun, runOf}
 use Rattle.rules.specs.Assemble.{ownCode}
 use Rattle.rules.specs.CodegenData.{CodegenData, Lower}
-use Rattle.words.specs.Runs as Runs
 use Rattle.words.specs.declared.instr.Section.{Section}
 use Rattle.rules.specs.Tree.{Assignop, Plain, AddTo, SubTo, MulTo, DivTo, ModTo, PowTo}
 use Rattle.stmts.specs.Told.{assignCost}

@@ -6,7 +6,7 @@ use Prim.Native.Nat.{ℕ, ◌+◌, ◌*◌, ◌-◌, ◌/◌, ◌%◌, ◌<◌, 
 use native.Mathlib.Omega.{arith}
 use lib.ListN.{length, get_or}
 use borrow.Author.Tests.{eq-eqb, ne_eqb}
-use Rattle.rules.specs.Constants.{mostBytes}
+use Rattle.rules.specs.Constants.{mostBytes, mostNames}
 use Rattle.rules.specs.Tree.{Block, end, ite, assign, ofBlock, statement, node, both, emptyTally}
 use Rattle.rules.specs.Parse.{assignops}
 use Rattle.nodes.specs.Words.{iteKind, gotoKind, stepKind, assignKind}
@@ -16,7 +16,7 @@ use Rattle.nodes.proofs.Words.{unpacked}
 use Rattle.nodes.proofs.Blocks.{is-end}
 use Rattle.nodes.proofs.Table.{grows, grows-b}
 use Rattle.nodes.proofs.Exprs.{op-small}
-use Rattle.stmts.specs.Lists.{only, rest, onwardB, isEnd, deep, madeBy, linkedBy}
+use Rattle.stmts.specs.Lists.{only, rest, onwardB, isEnd, deep, madeBy, linkedBy, Held}
 
 -- what parts count, and how wide and deep they are
 pub record Parts (x : Block) : Type 0 where
@@ -70,7 +70,7 @@ linked-other : (w k : ℕ) → w % 16 ≡ k → (k ≡ gotoKind → ⊥) → (l 
 unfolding linkedBy
 linked-other w k e h l = rw (ne_eqb (w % 16) gotoKind (λ q. h (sym e ∙ q)))
 
-pub split : {t s : List ℕ} {m n i z : ℕ} {x : Block} → length s ≤ mostBytes → m ≤ 256 → 0 < n → HoldsB t s m n i x z → Split t s m n i x z
+pub split : {t s : List ℕ} {m n i z : ℕ} {x : Block} → length s ≤ mostBytes → m ≤ mostNames → 0 < n → HoldsB t s m n i x z → Split t s m n i x z
 unfolding only rest width assignops
 split a c h (at-end p q) = absurd (omega arith)
 split a c h (at-goto {i = i} p w q e xs) =
@@ -134,6 +134,23 @@ split a c h (at-assign y op o p b w k q e xs) =
       first = omega (arith, u.last-is);
       second = omega (arith, u.last-is);
     }
+
+-- ---- a held list: its first statement and the others are held, and it is held at any equal node
+
+module _ {s t : List ℕ} {i n depth : ℕ} (p : Held s t i n depth) where
+  pub cut : 0 < n → Split t s p.known n i p.block p.last
+  cut h = split p.short p.few h p.held
+
+  abbrev pub first : 0 < n → Held s t i 1 depth
+  first h =
+      let sp = cut h in
+      record { known = p.known; block = only p.block; last = get_or t i 0 / 281474976710656; held = sp.head; inside = omega (arith, p.inside, sp.second); short = p.short; few = p.few; shallow = omega (arith, p.shallow, (parts p.block).first-deep) }
+
+  abbrev pub others : 0 < n → Held s t (get_or t i 0 / 281474976710656) (n - 1) depth
+  others h = record { known = p.known; block = rest p.block; last = p.last; held = (cut h).tail; inside = p.inside; short = p.short; few = p.few; shallow = omega (arith, p.shallow, (parts p.block).rest-deep) }
+
+  abbrev pub moved : {k : ℕ} → k ≡ i → Held s t k n depth
+  moved e = record { known = p.known; block = p.block; last = p.last; held = starts (sym e) p.held; inside = p.inside; short = p.short; few = p.few; shallow = p.shallow }
 
 -- a list of one statement is that statement
 pub one_only : {t s : List ℕ} {m i z : ℕ} {x : Block} → HoldsB t s m 1 i x z → only x ≡ x

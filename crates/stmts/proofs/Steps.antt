@@ -5,60 +5,37 @@ use mathlib.Core.List.{List}
 use Prim.Native.Nat.{ℕ, ◌+◌, ◌-◌, ◌/◌, ◌≤◌, ◌<◌}
 use native.Mathlib.Omega.{arith}
 use lib.ListN.{get_or}
+use Rattle.rules.specs.Constants.{mostNames}
 use Rattle.rules.specs.Tree.{Block, ofBlock, emptyTally}
 use Rattle.nodes.specs.Width.{width}
 use Rattle.nodes.specs.Holds.{HoldsB}
 use Rattle.nodes.proofs.Blocks.{is-end}
 use Rattle.codegen.specs.declared.state.Counters.{Counters}
 use Rattle.codegen.specs.Does.{Lent}
-use Rattle.stmts.specs.Lists.{only, rest, isEnd, madeBy, linkedBy, entryBy, ListReady, ListDone, ListMid, SameLengths}
+use Rattle.stmts.specs.Lists.{rest, isEnd, madeBy, linkedBy, entryBy, ListReady, ListDone, ListMid, SameLengths}
 use Rattle.stmts.proofs.Lists.{lists-none, lists-more}
-use Rattle.stmts.proofs.Splits.{parts, split}
+use Rattle.stmts.proofs.Splits.{parts, split, cut, first, others}
 use Rattle.stmts.proofs.Places.{entry-same}
 
 -- the first of the statements that are left
 pub ready-first : {s t : List ℕ} {i left depth n f : ℕ} {c : Counters} {il nl sl pl ml zl : ℕ} → ListReady s t i left depth n c il nl sl pl ml zl → 0 < left → f ≡ n → ListReady s t i 1 depth f c il nl sl pl ml zl
-ready-first p h e =
-    let sp = split p.short p.few h p.held in
-    let pa = parts p.block in
-    record {
-      known = p.known;
-      block = only p.block;
-      last = _;
-      held = sp.head;
-      inside = omega (arith, p.inside, sp.second);
-      short = p.short;
-      few = p.few;
-      shallow = omega (arith, p.shallow, pa.first-deep);
-      ample = omega (arith, p.ample, pa, e);
-    }
+ready-first p h e = record { list = first p.list h; ample = omega (arith, p.ample, parts p.list.block, e) }
 
 module _ {s t : List ℕ} {i0 count depth n0 k : ℕ} {l0 : Bool} {c0 : Counters} {t0 : Lent} {se0 : List ℕ} {i left n : ℕ} {l : Bool} {c : Counters} {t1 : Lent} {se : List ℕ} (mid : ListMid s t i0 count depth l0 n0 k c0 t0 se0 i left l n c t1 se) where
   -- one more is lowered: linked as fl says, with number fn, left to fk; the whole is left to j, which is k
   pub list_on : {fl l' : Bool} {fn fk n' j : ℕ} {c1 : Counters} {t2 : Lent} {se2 : List ℕ} → 0 < left → fl ≡ l → fn ≡ n → fk ≡ entryBy left (n + madeBy (get_or t i 0)) j → j ≡ k
       → l' ≡ linkedBy (get_or t i 0) l → n' ≡ n + madeBy (get_or t i 0) → SameLengths t1 t2 se se2
-      → ((m : ℕ) (x : Block) (z : ℕ) → m ≤ 256 → HoldsB t s m 1 i x z → ListDone m x z fl fn fk c t1 t2 se se2 c1 z (fn + width x))
+      → ((m : ℕ) (x : Block) (z : ℕ) → m ≤ mostNames → HoldsB t s m 1 i x z → ListDone m x z fl fn fk c t1 t2 se se2 c1 z (fn + width x))
       → ListMid s t i0 count depth l0 n0 k c0 t0 se0 (get_or t i 0 / 281474976710656) (left - 1) l' n' c1 t2 se2
   list_on h a b d to e g same f =
       let p = mid.ready in
-      let sp = split p.short p.few h p.held in
-      let pa = parts p.block in
-      let st = (f _ _ _ p.few sp.head).spent in
+      let sp = cut p.list h in
+      let st = (f _ _ _ p.list.few sp.head).spent in
       record {
-        ready = record {
-          known = p.known;
-          block = rest p.block;
-          last = p.last;
-          held = sp.tail;
-          inside = p.inside;
-          short = p.short;
-          few = p.few;
-          shallow = omega (arith, p.shallow, pa.rest-deep);
-          ample = omega (arith, p.ample, pa, st, same, g, sp.made);
-        };
+        ready = record { list = others p.list h; ample = omega (arith, p.ample, parts p.list.block, st, same, g, sp.made) };
         going = λ m x z o q.
             let u = mid.going m x z o q in
-            let su = split p.short o h u.held in
+            let su = split p.list.short o h u.held in
             let pu = parts u.others in
             let du = f m _ _ o su.head in
             record {
@@ -77,7 +54,7 @@ module _ {s t : List ℕ} {i0 count depth n0 k : ℕ} {l0 : Bool} {c0 : Counters
             };
       }
 
-  pub list-end : {m z : ℕ} {x : Block} → left ≤ 0 → m ≤ 256 → HoldsB t s m count i0 x z → ListDone m x z l0 n0 k c0 t0 t1 se0 se c i n
+  pub list-end : {m z : ℕ} {x : Block} → left ≤ 0 → m ≤ mostNames → HoldsB t s m count i0 x z → ListDone m x z l0 n0 k c0 t0 t1 se0 se c i n
   unfolding ofBlock emptyTally width
   list-end h a q =
       let u = mid.going _ _ _ a q in

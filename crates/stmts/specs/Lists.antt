@@ -1,7 +1,7 @@
 -- What lowering a list of statements gives: its sections in the tables, one behind the other.
-use Rattle.std.specs.Prelude.{◌≡◌, Bool, true, false, cond, eqb, List, [], map, ℕ, suc, ◌+◌, ◌*◌, ◌/◌, ◌%◌, ◌≤◌, ◌<◌, max, length}
+use Rattle.std.specs.Prelude.{◌≡◌, Bool, true, false, cond, eqb, List, [], map, ℕ, suc, ◌+◌, ◌-◌, ◌*◌, ◌/◌, ◌%◌, ◌≤◌, ◌<◌, max, length}
 use Rattle.std.proofs.lemmas.List.Edits.{sets}
-use Rattle.rules.specs.Constants.{mostBytes}
+use Rattle.rules.specs.Constants.{mostBytes, mostNames}
 use Rattle.rules.specs.Word.{insWord}
 use Rattle.rules.specs.Tree.{Block, end, ite, assign, Tally, ofBlock, both}
 use Rattle.rules.specs.Machine.{SectionCode}
@@ -117,17 +117,21 @@ pub record Ample (k : Tally) (w n j : ℕ) (c : Counters) (il nl sl pl ml zl : �
   pub sections-fit : j + w ≤ 65535
   pub small : il < 65536
 
--- a list of `count` statements is held at node i, nested no deeper than `depth`, and there is room for it
-pub record ListReady (s t : List ℕ) (i count depth j : ℕ) (c : Counters) (il nl sl pl ml zl : ℕ) : Type 0 where
+-- a list of `count` statements is held at node i of the table t over the file s, nested no deeper than `depth`
+pub record Held (s t : List ℕ) (i count depth : ℕ) : Type 0 where
   pub known : ℕ
   pub block : Block
   pub last : ℕ
   pub held : HoldsB t s known count i block last
   pub inside : last ≤ length t
   pub short : length s ≤ mostBytes
-  pub few : known ≤ 256
+  pub few : known ≤ mostNames
   pub shallow : deep block ≤ depth
-  pub ample : Ample (ofBlock block) (width block) known j c il nl sl pl ml zl
+
+-- and there is room for it
+pub record ListReady (s t : List ℕ) (i count depth j : ℕ) (c : Counters) (il nl sl pl ml zl : ℕ) : Type 0 where
+  pub list : Held s t i count depth
+  pub ample : Ample (ofBlock list.block) (width list.block) list.known j c il nl sl pl ml zl
 
 -- what was counted
 pub record SpentAll (k : Tally) (c c' : Counters) : Type 0 where
@@ -166,7 +170,7 @@ pub record Going (s t : List ℕ) (m : ℕ) (x : Block) (z : ℕ) (l0 : Bool) (n
 
 pub record ListMid (s t : List ℕ) (i0 count depth : ℕ) (l0 : Bool) (n0 k : ℕ) (c0 : Counters) (t0 : Lent) (se0 : List ℕ) (i left : ℕ) (l : Bool) (n : ℕ) (c : Counters) (t1 : Lent) (se : List ℕ) : Type 0 where
   pub ready : ListReady s t i left depth n c (length t1.instrs) (length t1.numbers) (length t1.strings) (length t1.pool) (length t1.names) (length se)
-  pub going : (m : ℕ) (x : Block) (z : ℕ) → m ≤ 256 → HoldsB t s m count i0 x z → Going s t m x z l0 n0 k c0 t0 se0 i left l n c t1 se
+  pub going : (m : ℕ) (x : Block) (z : ℕ) → m ≤ mostNames → HoldsB t s m count i0 x z → Going s t m x z l0 n0 k c0 t0 se0 i left l n c t1 se
 
 -- the sections of a statement, by its node's word; and whether what stands behind it is linked
 unfoldable pub madeBy : ℕ → ℕ
@@ -181,35 +185,20 @@ entryBy count n k = cond (eqb count 1) k n
 
 -- an Ite's list: it makes a section even where it is empty
 pub record BranchReady (s t : List ℕ) (i count depth j : ℕ) (c : Counters) (il nl sl pl ml zl : ℕ) : Type 0 where
-  pub known : ℕ
-  pub block : Block
-  pub last : ℕ
-  pub held : HoldsB t s known count i block last
-  pub inside : last ≤ length t
-  pub short : length s ≤ mostBytes
-  pub few : known ≤ 256
-  pub shallow : deep block ≤ depth
-  pub ample : Ample (ofBlock block) (orOne (width block)) known j c il nl sl pl ml zl
+  pub list : Held s t i count depth
+  pub ample : Ample (ofBlock list.block) (orOne (width list.block)) list.known j c il nl sl pl ml zl
 
 -- an Ite's lists of a and b statements, from node i on: they make v and w sections from number j on, and the join one more
 pub record IteReady (s t : List ℕ) (i a b depth j v w : ℕ) (c : Counters) (il nl sl pl ml zl : ℕ) : Type 0 where
-  pub known : ℕ
-  pub yes : Block
-  pub no : Block
-  pub mid : ℕ
-  pub last : ℕ
-  pub then-held : HoldsB t s known a i yes mid
-  pub else-held : HoldsB t s known b mid no last
-  pub inside : last ≤ length t
-  pub short : length s ≤ mostBytes
-  pub few : known ≤ 256
+  pub nested : 0 < depth
+  pub yes : Held s t i a (depth - 1)
+  pub no : Held s t yes.last b (depth - 1)
   pub few-then : a < 64
   pub few-else : b < 64
-  pub width-then : v ≡ orOne (width yes)
-  pub width-else : w ≡ orOne (width no)
-  pub shallow-then : deep yes < depth
-  pub shallow-else : deep no < depth
-  pub ample : Ample (both (ofBlock yes) (ofBlock no)) (v + w + 1) known j c il nl sl pl ml zl
+  pub width-then : v ≡ orOne (width yes.block)
+  pub width-else : w ≡ orOne (width no.block)
+  pub same-known : no.known ≡ yes.known
+  pub ample : Ample (both (ofBlock yes.block) (ofBlock no.block)) (v + w + 1) yes.known j c il nl sl pl ml zl
 
 -- both lists and the join are lowered
 pub record IteDone (m : ℕ) (x y : Block) (l : Bool) (j v w k : ℕ) (c : Counters) (t t' : Lent) (se se' : List ℕ) (c' : Counters) : Type 0 where

@@ -1,25 +1,16 @@
 -- What lowering a statement's own instructions asks: its expression is held at node i, and there is room for it and for a instructions, n numbers
 -- and v values more.
-use Rattle.std.specs.Prelude.{List, ℕ, ◌+◌, ◌*◌, ◌≤◌, ◌<◌, length}
-use Rattle.rules.specs.Constants.{mostBytes}
+use Rattle.std.specs.Prelude.{List, ℕ, ◌+◌, ◌*◌, ◌<◌}
 use Rattle.rules.specs.Tree.{Expr, ofExpr}
 use Rattle.rules.specs.CodegenData.{Lower}
-use Rattle.nodes.specs.Holds.{HoldsE}
 use Rattle.codegen.specs.declared.state.Counters.{Counters}
 use Rattle.codegen.specs.Does.{Lent, Does}
 use Rattle.codegen.specs.Costs.{Spent, Room}
-use Rattle.exprs.specs.Exprs.{Fits, exprCost}
+use Rattle.exprs.specs.Exprs.{Ready, exprCost}
 
 pub record Holding (s t : List ℕ) (i : ℕ) (c : Counters) (a n v il nl sl pl ml : ℕ) : Type 0 where
-  pub names : ℕ
-  pub tree : Expr
-  pub last : ℕ
-  pub held : HoldsE t s names i tree last
-  pub inside : last ≤ length t
-  pub short : length s ≤ mostBytes
-  pub few : names ≤ 256
-  pub fits : Fits tree names c il nl sl pl ml
-  pub room : Room c (9 * (ofExpr tree).nodes + a) (2 * (ofExpr tree).nodes + n) (3 * (ofExpr tree).nodes + v) il nl
+  pub ready : Ready s t i c il nl sl pl ml
+  pub room : Room c (9 * (ofExpr ready.tree).nodes + a) (2 * (ofExpr ready.tree).nodes + n) (3 * (ofExpr ready.tree).nodes + v) il nl
 
 -- the code does what m does, which lowers e; it takes a instructions, n numbers and v values more
 pub record LowersTo (m : Lower ℕ) (k : ℕ) (e : Expr) (a n v : ℕ) (c : Counters) (t t' : Lent) (r : ℕ) (c' : Counters) : Type 0 where
@@ -29,4 +20,4 @@ pub record LowersTo (m : Lower ℕ) (k : ℕ) (e : Expr) (a n v : ℕ) (c : Coun
 -- an assignment to the name x
 pub record Setting (s t : List ℕ) (i : ℕ) (c : Counters) (x il nl sl pl ml : ℕ) : Type 0 where
   pub holding : Holding s t i c 8 2 2 il nl sl pl ml
-  pub known : x < holding.names
+  pub known : x < holding.ready.names

@@ -1,7 +1,6 @@
 -- A statement in two parts: its own section, and the lists that it holds. A line has the two apart in the tables, a list one behind the other.
-use Rattle.std.specs.Prelude.{◌≡◌, Bool, true, List, [], ◌∷◌, ◌++◌, ℕ, suc, ◌+◌, ◌≤◌, ◌<◌, length}
+use Rattle.std.specs.Prelude.{◌≡◌, Bool, true, List, [], ◌∷◌, ◌++◌, ℕ, suc, ◌+◌, ◌<◌}
 use Rattle.rules.specs.Instr.{Instruction}
-use Rattle.rules.specs.Constants.{mostBytes}
 use Rattle.rules.specs.Tree.{Block, end, ite, assign, Tally, ofBlock, both, emptyTally}
 use Rattle.rules.specs.Machine.{SectionCode, section, line}
 use Rattle.rules.specs.Script.{Stmts, nil}
@@ -10,13 +9,12 @@ use Rattle.rules.specs.CodegenData.{CodegenData, Lower, pure, scoped}
 use Rattle.rules.specs.Operators.{codegenIncdec}
 use Rattle.rules.specs.Annotate.{lineNumber, condition, codegenFromAssign, annotateStmts}
 use Rattle.nodes.specs.Width.{width, orOne}
-use Rattle.nodes.specs.Holds.{HoldsB}
 use Rattle.codegen.specs.declared.state.Counters.{Counters}
 use Rattle.codegen.specs.Does.{Lent}
 use Rattle.exprs.specs.Exprs.{exprCost}
 use Rattle.stmts.specs.Told.{assignCost}
 use Rattle.stmts.specs.Makes.{Regs, Stored, made, nothing, jump, jumpCost}
-use Rattle.stmts.specs.Lists.{Wrote, isEnd, deep, Ample, ListReady, SpentAll}
+use Rattle.stmts.specs.Lists.{Wrote, isEnd, Ample, Held, ListReady, SpentAll}
 
 -- ---- the own section
 
@@ -88,7 +86,7 @@ insideTally (assign x o e xs) = emptyTally
 -- a statement is held at node i, and there is room for it; j is its own section's number, whose word goes to a slot
 pub record OwnReady (s t : List ℕ) (i j slot : ℕ) (c : Counters) (il nl sl pl ml zl : ℕ) : Type 0 where
   pub depth : ℕ
-  pub list : ListReady s t i 1 depth j c il nl sl pl ml zl
+  pub ready : ListReady s t i 1 depth j c il nl sl pl ml zl
   pub placed : slot < zl
 
 -- its own section is made, with its word at the slot; s: is it a line start?
@@ -106,15 +104,8 @@ pub record OwnDone (m : ℕ) (x : Block) (s l : Bool) (n k slot : ℕ) (c : Coun
 
 -- a statement is held at node i, and there is room for the lists that it holds; j is its own section's number
 pub record InsideReady (s t : List ℕ) (i depth j : ℕ) (c : Counters) (il nl sl pl ml zl : ℕ) : Type 0 where
-  pub known : ℕ
-  pub block : Block
-  pub last : ℕ
-  pub held : HoldsB t s known 1 i block last
-  pub inside : last ≤ length t
-  pub short : length s ≤ mostBytes
-  pub few : known ≤ 256
-  pub shallow : deep block ≤ depth
-  pub ample : Ample (insideTally block) (width block) known j c il nl sl pl ml zl
+  pub list : Held s t i 1 depth
+  pub ample : Ample (insideTally list.block) (width list.block) list.known j c il nl sl pl ml zl
 
 -- its lists are lowered, their sections behind number n
 pub record InsideWent (m e : ℕ) (x : Block) (l : Bool) (n k : ℕ) (b : Lent) (c : Counters) (t t' : Lent) (se se' : List ℕ) (c' : Counters) (p : (Stmts × Stmts) × CodegenData) : Type 0 where

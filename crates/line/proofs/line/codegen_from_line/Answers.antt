@@ -8,7 +8,7 @@ use Rattle.stmts.specs.Parts.{ownCost, insideTally}
 use Rattle.stmts.proofs.Lists.{some-width, stored-empty}
 use Rattle.stmts.proofs.Parts.{one-parts}
 use Rattle.stmts.proofs.Places.{entry-same, not_end}
-use Rattle.stmts.proofs.Splits.{split, parts}
+use Rattle.stmts.proofs.Splits.{split, parts, cut, first, others}
 use Rattle.stmts.proofs.Steps.{ready-first}
 use Rattle.line.specs.Lines.{innerNodes}
 use Rattle.line.proofs.Parts.{inner-only, line-none, line-more}
@@ -22,61 +22,54 @@ returns-then-count-eq0 c = λ m x z h q.
     rw e.is (record { does = line-none c.put_section.ensures; cost = omega arith; spent = omega arith; number_is = omega arith })
 
 pub offset_bounds-nodes-i : goal.offset_bounds-nodes-i
-offset_bounds-nodes-i c = let p = c.requires in let sp = split p.short p.few (omega arith) p.held in omega arith
+offset_bounds-nodes-i c = let sp = cut c.requires.ready.list (omega arith) in omega arith
 
 pub bounds-nodes-i : goal.bounds-nodes-i
-bounds-nodes-i c = let p = c.requires in let sp = split p.short p.few (omega arith) p.held in omega arith
+bounds-nodes-i c = let sp = cut c.requires.ready.list (omega arith) in omega arith
 
 pub first_link-first-requires : goal.first_link-first-requires
-first_link-first-requires c = let p = c.requires in let sp = split p.short p.few (omega arith) p.held in omega (arith, parts p.block)
+first_link-first-requires c = let p = c.requires.ready.list in let sp = cut p (omega arith) in omega (arith, parts p.block)
 
 pub codegen_from_own-d-requires : goal.codegen_from_own-d-requires
 codegen_from_own-d-requires c =
-    let p = c.requires in
-    rw c.with_cursor.ensures
-    (record {
-      depth = c.args.depth;
-      list = ready-first {left = c.args.count}
-          (record { known = p.known; block = p.block; last = p.last; held = p.held; inside = p.inside; short = p.short; few = p.few; shallow = p.shallow; ample = p.ample }) (omega arith) c.first_link-first.ensures.number;
-      placed = p.slot;
-    })
+    rw c.with_cursor.ensures (record { depth = c.args.depth; ready = ready-first c.requires.ready (omega arith) c.first_link-first.ensures.number; placed = c.requires.slot })
 
 pub put_section-requires-2 : goal.put_section-requires-2
 put_section-requires-2 c =
-    let p = c.requires in
-    let sp = split p.short p.few (omega arith) p.held in
+    let p = c.requires.ready.list in
+    let sp = cut p (omega arith) in
     let wd = some-width (only p.block) (not_end sp.head (λ z. omega arith)) in
     omega (arith, parts p.block)
 
 pub codegen_from_inside-e-requires : goal.codegen_from_inside-e-requires
 codegen_from_inside-e-requires c =
-    let p = c.requires in
-    let sp = split p.short p.few (omega arith) p.held in
+    let p = c.requires.ready.list in
+    let sp = cut p (omega arith) in
     let pa = parts p.block in
     let op = one-parts p.block in
     let inn = inner-only p.block in
     let hs = rw c.with_cursor.ensures at (c.codegen_from_own-d.ensures _ _ _ p.few sp.head).spent in
     rw c.with_cursor-2.ensures
-    (record { known = p.known; block = only p.block; last = _; held = sp.head; inside = omega arith; short = p.short; few = p.few; shallow = omega arith; ample = omega arith })
+    (record { list = first p (omega arith); ample = omega arith })
 
 pub rest_link-requires : goal.rest_link-requires
-rest_link-requires c = let p = c.requires in let sp = split p.short p.few (omega arith) p.held in omega (arith, parts p.block)
+rest_link-requires c = let p = c.requires.ready.list in let sp = cut p (omega arith) in omega (arith, parts p.block)
 
 pub codegen_and_link_stmts-r-requires : goal.codegen_and_link_stmts-r-requires
 codegen_and_link_stmts-r-requires c =
-    let p = c.requires in
-    let sp = split p.short p.few (omega arith) p.held in
+    let p = c.requires.ready.list in
+    let sp = cut p (omega arith) in
     let pa = parts p.block in
     let op = one-parts p.block in
     let inn = inner-only p.block in
     let hs = rw c.with_cursor.ensures at (c.codegen_from_own-d.ensures _ _ _ p.few sp.head).spent in
     let is = rw c.with_cursor-2.ensures at (c.codegen_from_inside-e.ensures _ _ _ p.few sp.head).spent in
-    record { known = p.known; block = rest p.block; last = _; held = sp.tail; inside = p.inside; short = p.short; few = p.few; shallow = omega arith; ample = omega arith }
+    record { list = others p (omega arith); ample = omega arith }
 
 pub returns : goal.returns
 returns c = λ m x z h q.
     let pos : 0 < c.args.count = omega arith in
-    let sp = split c.requires.short h pos q in
+    let sp = split c.requires.ready.list.short h pos q in
     let pa = parts x in
     let op = one-parts x in
     let inn = inner-only x in

@@ -6,18 +6,14 @@ use Rattle.program.proofs.lines.codegen_from_lines.Goals as goal
 pub codegen_from_line-done-requires : goal.codegen_from_line-done-requires
 codegen_from_line-done-requires c =
     let p = c.loop-k.invariant.mid.ready in
-    let lh = line-held (λ e. omega (arith, e)) p.held in
+    let q = p.lines in
+    let lh = line-held (λ e. omega (arith, e)) q.held in
     let sc = same-counts c.aimed_at.ensures in
     record {
-      known = p.known;
-      block = lh.block;
-      last = lh.last;
-      held = lh.here;
-      inside = omega (arith, p.inside, lh.ends);
-      short = p.short;
-      few = p.few;
-      shallow = omega (arith, p.shallow, lh.sum.first-deep);
-      ample = omega (arith, p.ample, lh.sum, sc);
+      ready = record {
+        list = record { known = q.known; block = lh.block; last = lh.last; held = lh.here; inside = omega (arith, q.inside, lh.ends); short = q.short; few = q.few; shallow = omega (arith, p.shallow, lh.sum.first-deep) };
+        ample = omega (arith, p.ample, lh.sum, sc);
+      };
       behind = omega (arith, p.behind, lh.sum, sc);
       slot = omega (arith, lh.more, p.first-lines, p.ample);
     }

@@ -1,5 +1,6 @@
 -- The tree's lines are held and have room, and what is made of them is the whole machine's words.
 use Rattle.std.proofs.Common.{arith, refl, ◌≤◌, length}
+use Rattle.rules.specs.Constants.{mostNames}
 use Rattle.program.proofs.Whole.{lines-nodes, laid}
 use Rattle.program.proofs.Script.{owns-most}
 use Rattle.program.proofs.program.codegen_from_program.Goals as goal
@@ -8,25 +9,37 @@ pub head_costs-requires : goal.head_costs-requires
 head_costs-requires c =
     let p = c.requires in
     let n = lines-nodes p.held in
-    record { file = _; known = _; blocks = _; first = 0; last = p.last; held = rw p.lines at p.held; inside = p.inside; small = omega arith; short = p.short; few = omega arith; words = p.line-words; few-nodes = p.few-nodes }
+    record {
+      file = _;
+      lines = record { known = _; blocks = _; first = 0; last = p.last; held = rw p.lines at p.held; inside = p.inside; short = p.short; few = omega arith; words = p.line-words };
+      small = omega arith;
+      few-nodes = p.few-nodes;
+    }
 
 pub codegen_from_lines-r-requires : goal.codegen_from_lines-r-requires
 codegen_from_lines-r-requires c =
     let p = c.requires in
     let h = rw p.lines at p.held in
-    let f : length p.tree.names ≤ 256 = omega arith in
+    let f : length p.tree.names ≤ mostNames = omega arith in
     let o = owns-most p.tree.lines in
     let e = c.head_costs.ensures _ _ _ _ _ p.short f h in
-    record { known = _; blocks = _; first = 0; last = p.last; held = h; inside = p.inside; short = p.short; few = f; words = p.line-words; few-lines = p.few-lines; shallow = p.shallow; ample = omega arith; behind = omega arith; first-lines = omega arith }
+    record {
+      lines = record { known = _; blocks = _; first = 0; last = p.last; held = h; inside = p.inside; short = p.short; few = f; words = p.line-words };
+      few-lines = p.few-lines;
+      shallow = p.shallow;
+      ample = omega arith;
+      behind = omega arith;
+      first-lines = omega arith;
+    }
 
 pub returns : goal.returns
 returns c =
     λ x z h pl l n.
     let p = c.requires in
     let hx = rw l at h in
-    let fx : length x.names ≤ 256 = omega arith in
+    let fx : length x.names ≤ mostNames = omega arith in
     let hp = rw p.lines at p.held in
-    let fp : length p.tree.names ≤ 256 = omega arith in
+    let fp : length p.tree.names ≤ mostNames = omega arith in
     let e = c.head_costs.ensures _ _ _ _ _ p.short fp hp in
     let d = c.codegen_from_lines-r.ensures _ _ _ _ fp hp in
     let o = owns-most p.tree.lines in

@@ -7,7 +7,7 @@ use Rattle.stmts.proofs.own.codegen_from_assign.Goals as goal
 
 pub assign_by-requires : goal.assign_by-requires
 assign_by-requires c =
-    let p = c.requires.0.holding in
+    let p = c.requires.0.holding.ready in
     let s = (c.codegen_from_expr-e.ensures _ _ _ p.few p.held).spent in
     let z = expr-most p.tree in
     omega arith

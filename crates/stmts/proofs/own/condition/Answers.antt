@@ -6,7 +6,7 @@ use Rattle.stmts.proofs.Forms.{as-condition}
 use Rattle.stmts.proofs.own.condition.Goals as goal
 
 pub make_truthy-requires : goal.make_truthy-requires
-make_truthy-requires c = let s = (c.codegen_from_expr-e.ensures _ _ _ c.requires.few c.requires.held).spent in let z = expr-most c.requires.tree in omega arith
+make_truthy-requires c = let p = c.requires.ready in let s = (c.codegen_from_expr-e.ensures _ _ _ p.few p.held).spent in let z = expr-most p.tree in omega arith
 
 pub returns : goal.returns
 returns c = λ m e j h x.

@@ -6,7 +6,7 @@ use Rattle.stmts.proofs.Forms.{as_line}
 use Rattle.stmts.proofs.own.line_number.Goals as goal
 
 pub numberify-requires : goal.numberify-requires
-numberify-requires c = let s = (c.codegen_from_expr-e.ensures _ _ _ c.requires.few c.requires.held).spent in let z = expr-most c.requires.tree in omega arith
+numberify-requires c = let p = c.requires.ready in let s = (c.codegen_from_expr-e.ensures _ _ _ p.few p.held).spent in let z = expr-most p.tree in omega arith
 
 pub returns : goal.returns
 returns c = λ m e j h x.

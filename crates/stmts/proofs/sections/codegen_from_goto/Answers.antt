@@ -6,7 +6,7 @@ use Rattle.stmts.proofs.sections.codegen_from_goto.Goals as goal
 
 pub put_section-requires : goal.put_section-requires
 put_section-requires c =
-    let p = c.requires.0 in
+    let p = c.requires.0.ready in
     let s = (c.line_number-n.ensures _ _ _ p.few p.held).spent in
     let z = expr-most p.tree in
     (c.requires.1, omega arith, omega arith)

@@ -10,24 +10,24 @@ use Rattle.stmts.specs.Parts.{ownCost, bare}
 use Rattle.stmts.proofs.Makes.{assign-most, jump-cost-most}
 use Rattle.stmts.proofs.Parts.{owns-goto, owns-step, owns-assign, owns-ite}
 use Rattle.stmts.proofs.Places.{goto-at, step-at, assign-at, ite-at, else-ite, ite-sum, goto-sum, assign-sum, step_sum, empty-same}
-use Rattle.stmts.proofs.Splits.{split}
+use Rattle.stmts.proofs.Splits.{cut}
 use Rattle.stmts.proofs.sections.codegen_from_own.Goals as goal
 
 pub offset_bounds-nodes-i : goal.offset_bounds-nodes-i
-offset_bounds-nodes-i c = let p = c.requires.list in let sp = split p.short p.few (omega arith) p.held in omega arith
+offset_bounds-nodes-i c = let sp = cut c.requires.ready.list (omega arith) in omega arith
 
 pub bounds-nodes-i : goal.bounds-nodes-i
-bounds-nodes-i c = let p = c.requires.list in let sp = split p.short p.few (omega arith) p.held in omega arith
+bounds-nodes-i c = let sp = cut c.requires.ready.list (omega arith) in omega arith
 
 pub overflow_add-h : goal.overflow_add-h
-overflow_add-h c = let p = c.requires.list in let sp = split p.short p.few (omega arith) p.held in omega arith
+overflow_add-h c = let sp = cut c.requires.ready.list (omega arith) in omega arith
 
 pub codegen_from_goto-requires : goal.codegen_from_goto-requires
 codegen_from_goto-requires c =
-    let p = c.requires.list in
+    let p = c.requires.ready.list in
     let b = goto-at p.held c.if-kind-eq-GOTO.true in
     let y = goto-sum b.e _ b.is in
-    (record { names = p.known; tree = b.e; last = p.last; held = b.to; inside = p.inside; short = p.short; few = p.few; fits = omega arith; room = omega arith }, c.requires.placed, p.ample.small)
+    (record { ready = record { names = p.known; tree = b.e; last = p.last; held = b.to; inside = p.inside; short = p.short; few = p.few; fits = omega arith }; room = omega arith }, c.requires.placed, c.requires.ready.ample.small)
 
 pub returns-then-kind-eq-GOTO : goal.returns-then-kind-eq-GOTO
 unfolding ownCost bare ofBlock statement node both emptyTally
@@ -40,7 +40,7 @@ returns-then-kind-eq-GOTO c = λ m x z h q.
 
 pub codegen_from_step-requires : goal.codegen_from_step-requires
 codegen_from_step-requires c =
-    let p = c.requires.list in
+    let p = c.requires.ready.list in
     let b = step-at p.few p.held c.if-kind-eq-STEP.true in
     let y = step_sum _ _ _ b.is in
     omega arith
@@ -55,16 +55,16 @@ returns-then-kind-eq-STEP c = λ m x z h q.
 
 pub codegen_from_set-requires : goal.codegen_from_set-requires
 codegen_from_set-requires c =
-    let p = c.requires.list in
+    let p = c.requires.ready.list in
     let b = assign-at p.few p.held c.if-kind-eq-ASSIGN.true in
     let y = assign-sum _ _ b.e _ b.is in (
       record {
-        holding = record { names = p.known; tree = b.e; last = p.last; held = b.value; inside = p.inside; short = p.short; few = p.few; fits = omega arith; room = omega arith };
+        holding = record { ready = record { names = p.known; tree = b.e; last = p.last; held = b.value; inside = p.inside; short = p.short; few = p.few; fits = omega arith }; room = omega arith };
         known = b.known;
       },
       b.small,
       c.requires.placed,
-      p.ample.small,
+      c.requires.ready.ample.small,
     )
 
 pub returns-then-kind-eq-ASSIGN : goal.returns-then-kind-eq-ASSIGN
@@ -79,29 +79,29 @@ returns-then-kind-eq-ASSIGN c = λ m x z h q.
 
 pub overflow_add-first : goal.overflow_add-first
 overflow_add-first c =
-    let p = c.requires.list in
+    let p = c.requires.ready.list in
     let it = ite-at p.short p.few p.held (else-ite p.held c.if-kind-eq-GOTO.false c.if-kind-eq-STEP.false c.if-kind-eq-ASSIGN.false) in
     let sm = ite-sum it.e it.yes it.no _ it.is in
     omega arith
 
 pub overflow_add-other : goal.overflow_add-other
 overflow_add-other c =
-    let p = c.requires.list in
+    let p = c.requires.ready.list in
     let it = ite-at p.short p.few p.held (else-ite p.held c.if-kind-eq-GOTO.false c.if-kind-eq-STEP.false c.if-kind-eq-ASSIGN.false) in
     let sm = ite-sum it.e it.yes it.no _ it.is in
     omega arith
 
 pub codegen_from_test-requires : goal.codegen_from_test-requires
 codegen_from_test-requires c =
-    let p = c.requires.list in
+    let p = c.requires.ready.list in
     let it = ite-at p.short p.few p.held (else-ite p.held c.if-kind-eq-GOTO.false c.if-kind-eq-STEP.false c.if-kind-eq-ASSIGN.false) in
     let sm = ite-sum it.e it.yes it.no _ it.is in
-    (record { names = p.known; tree = it.e; last = _; held = it.test; inside = omega arith; short = p.short; few = p.few; fits = omega arith; room = omega arith }, c.requires.placed, p.ample.small)
+    (record { ready = record { names = p.known; tree = it.e; last = _; held = it.test; inside = omega arith; short = p.short; few = p.few; fits = omega arith }; room = omega arith }, c.requires.placed, c.requires.ready.ample.small)
 
 pub returns : goal.returns
 unfolding ownCost bare ofBlock statement node both emptyTally
 returns c = λ m x z h q.
-    let it = ite-at c.requires.list.short h q (else-ite q c.if-kind-eq-GOTO.false c.if-kind-eq-STEP.false c.if-kind-eq-ASSIGN.false) in
+    let it = ite-at c.requires.ready.list.short h q (else-ite q c.if-kind-eq-GOTO.false c.if-kind-eq-STEP.false c.if-kind-eq-ASSIGN.false) in
     let r = c.codegen_from_test.ensures m _ _ h it.test in
     let s = r.1 in
     let k = expr-most it.e in

@@ -8,7 +8,7 @@ use Rattle.stmts.proofs.sections.codegen_from_set.Goals as goal
 
 pub put_section-requires : goal.put_section-requires
 put_section-requires c =
-    let p = c.requires.0.holding in
+    let p = c.requires.0.holding.ready in
     let s = (c.codegen_from_assign-d.ensures _ _ _ p.few c.requires.0.known p.held).spent in
     let z = expr-most p.tree in
     let q = assign-most (get_or assignops c.args.op PowTo) in

@@ -4,16 +4,19 @@ use Rattle.exprs.proofs.Trees.{expr-most}
 use Rattle.stmts.proofs.Makes.{makes-jump, jump-most, jump-length}
 use Rattle.stmts.proofs.sections.codegen_from_test.Goals as goal
 
+pub condition-n-requires : goal.condition-n-requires
+condition-n-requires c = record { ready = c.requires.0.ready; room = omega arith }
+
 pub add_jump-d-requires : goal.add_jump-d-requires
 add_jump-d-requires c =
-    let p = c.requires.0 in
+    let p = c.requires.0.ready in
     let s = (c.condition-n.ensures _ _ _ p.few p.held).spent in
     let z = expr-most p.tree in
     omega arith
 
 pub put_section-requires : goal.put_section-requires
 put_section-requires c =
-    let p = c.requires.0 in
+    let p = c.requires.0.ready in
     let s = (c.condition-n.ensures _ _ _ p.few p.held).spent in
     let z = expr-most p.tree in
     let a = ap (λ k. k.at) c.add_jump-d.ensures.next in

@@ -4,32 +4,31 @@ use Rattle.rules.specs.Tree.{ofBlock, both, emptyTally}
 use Rattle.nodes.specs.Width.{width}
 use Rattle.nodes.specs.Words.{iteKind}
 use Rattle.nodes.proofs.Blocks.{is-end, tag, kind-held}
-use Rattle.nodes.proofs.Table.{grows-b}
 use Rattle.nodes.proofs.Width.{or-one}
 use Rattle.stmts.specs.Parts.{insideTally}
 use Rattle.stmts.proofs.Lists.{some-width, branch-empty, branch-list, stored-empty}
 use Rattle.stmts.proofs.Parts.{one-parts, none_inside, ite-inside, inside-none, inside-ite, lists-one}
 use Rattle.stmts.proofs.Places.{not_end, ite-at, ite-sum}
-use Rattle.stmts.proofs.Splits.{parts, split, starts, one_only}
+use Rattle.stmts.proofs.Splits.{parts, cut, moved, starts, one_only}
 use Rattle.stmts.proofs.Steps.{ready-first, list_on, list-end}
 use Rattle.stmts.proofs.stmt.+codegen_and_link_stmts_codegen_from_branch_codegen_from_inside_codegen_from_lists_codegen_from_stmt.Goals as goal
 
 -- ---- a list
 
 pub codegen_and_link_stmts-offset_bounds-nodes-node : goal.codegen_and_link_stmts-offset_bounds-nodes-node
-codegen_and_link_stmts-offset_bounds-nodes-node t c = let p = c.loop-left.invariant.mid.ready in let sp = split p.short p.few c.loop-left-test.true p.held in omega arith
+codegen_and_link_stmts-offset_bounds-nodes-node t c = let sp = cut c.loop-left.invariant.mid.ready.list c.loop-left-test.true in omega arith
 
 pub codegen_and_link_stmts-bounds-nodes-node : goal.codegen_and_link_stmts-bounds-nodes-node
-codegen_and_link_stmts-bounds-nodes-node t c = let p = c.loop-left.invariant.mid.ready in let sp = split p.short p.few c.loop-left-test.true p.held in omega arith
+codegen_and_link_stmts-bounds-nodes-node t c = let sp = cut c.loop-left.invariant.mid.ready.list c.loop-left-test.true in omega arith
 
 pub codegen_and_link_stmts-first_link-requires : goal.codegen_and_link_stmts-first_link-requires
-codegen_and_link_stmts-first_link-requires t c = let p = c.loop-left.invariant.mid.ready in let sp = split p.short p.few c.loop-left-test.true p.held in omega (arith, p.ample, parts p.block)
+codegen_and_link_stmts-first_link-requires t c = let p = c.loop-left.invariant.mid.ready in let sp = cut p.list c.loop-left-test.true in omega (arith, p.ample, parts p.list.block)
 
 pub codegen_and_link_stmts-codegen_from_stmt-d-requires : goal.codegen_and_link_stmts-codegen_from_stmt-d-requires
 codegen_and_link_stmts-codegen_from_stmt-d-requires t c = (omega arith, ready-first c.loop-left.invariant.mid.ready c.loop-left-test.true c.first_link.ensures.number)
 
 pub codegen_and_link_stmts-rest_link-here-requires : goal.codegen_and_link_stmts-rest_link-here-requires
-codegen_and_link_stmts-rest_link-here-requires t c = let p = c.loop-left.invariant.mid.ready in let sp = split p.short p.few c.loop-left-test.true p.held in omega (arith, p.ample, parts p.block)
+codegen_and_link_stmts-rest_link-here-requires t c = let p = c.loop-left.invariant.mid.ready in let sp = cut p.list c.loop-left-test.true in omega (arith, p.ample, parts p.list.block)
 
 pub codegen_and_link_stmts-loop-left-preserved : goal.codegen_and_link_stmts-loop-left-preserved
 codegen_and_link_stmts-loop-left-preserved t c =
@@ -48,10 +47,10 @@ codegen_and_link_stmts-returns t c = λ m x z h q. list-end c.loop-left.invarian
 -- ---- an Ite's list
 
 pub codegen_from_branch-put_section-requires : goal.codegen_from_branch-put_section-requires
-codegen_from_branch-put_section-requires t c = let o = or-one (width c.requires.0.block) in omega arith
+codegen_from_branch-put_section-requires t c = let o = or-one (width c.requires.0.list.block) in omega arith
 
 pub codegen_from_branch-overflow_add-behind : goal.codegen_from_branch-overflow_add-behind
-codegen_from_branch-overflow_add-behind t c = let o = or-one (width c.requires.0.block) in omega arith
+codegen_from_branch-overflow_add-behind t c = let o = or-one (width c.requires.0.list.block) in omega arith
 
 pub codegen_from_branch-returns-then-count-eq0 : goal.codegen_from_branch-returns-then-count-eq0
 unfolding ofBlock emptyTally
@@ -61,9 +60,9 @@ codegen_from_branch-returns-then-count-eq0 t c = λ m x z h q.
 
 pub codegen_from_branch-codegen_and_link_stmts-requires : goal.codegen_from_branch-codegen_and_link_stmts-requires
 codegen_from_branch-codegen_and_link_stmts-requires t c =
-    let p = c.requires.0 in
+    let p = c.requires.0.list in
     let o = or-one (width p.block) in
-    (omega arith, record { known = p.known; block = p.block; last = p.last; held = p.held; inside = p.inside; short = p.short; few = p.few; shallow = p.shallow; ample = omega arith })
+    (omega arith, record { list = p; ample = omega arith })
 
 pub codegen_from_branch-returns : goal.codegen_from_branch-returns
 codegen_from_branch-returns t c = λ m x z h q.
@@ -73,10 +72,10 @@ codegen_from_branch-returns t c = λ m x z h q.
 -- ---- the lists of a statement
 
 pub codegen_from_inside-offset_bounds-nodes-i : goal.codegen_from_inside-offset_bounds-nodes-i
-codegen_from_inside-offset_bounds-nodes-i t c = let p = c.requires in let sp = split p.short p.few (omega arith) p.held in omega arith
+codegen_from_inside-offset_bounds-nodes-i t c = let sp = cut c.requires.list (omega arith) in omega arith
 
 pub codegen_from_inside-bounds-nodes-i : goal.codegen_from_inside-bounds-nodes-i
-codegen_from_inside-bounds-nodes-i t c = let p = c.requires in let sp = split p.short p.few (omega arith) p.held in omega arith
+codegen_from_inside-bounds-nodes-i t c = let sp = cut c.requires.list (omega arith) in omega arith
 
 pub codegen_from_inside-returns-then-w-ne-ITE : goal.codegen_from_inside-returns-then-w-ne-ITE
 codegen_from_inside-returns-then-w-ne-ITE t c = λ m x z h q.
@@ -86,42 +85,34 @@ codegen_from_inside-returns-then-w-ne-ITE t c = λ m x z h q.
 
 pub codegen_from_inside-overflow_add-number : goal.codegen_from_inside-overflow_add-number
 codegen_from_inside-overflow_add-number t c =
-    let p = c.requires in
+    let p = c.requires.list in
     let it = ite-at p.short p.few p.held c.if-w-ne-ITE.false in
     let sm = ite-sum it.e it.yes it.no _ it.is in
     omega arith
 
 pub codegen_from_inside-bounds-nodes-h : goal.codegen_from_inside-bounds-nodes-h
 codegen_from_inside-bounds-nodes-h t c =
-    let p = c.requires in
+    let p = c.requires.list in
     let it = ite-at p.short p.few p.held c.if-w-ne-ITE.false in
     omega arith
 
 pub codegen_from_inside-codegen_from_lists-requires : goal.codegen_from_inside-codegen_from_lists-requires
 unfolding both
 codegen_from_inside-codegen_from_lists-requires t c =
-    let p = c.requires in
+    let p = c.requires.list in
     let it = ite-at p.short p.few p.held c.if-w-ne-ITE.false in
     let sm = ite-sum it.e it.yes it.no _ it.is in
     let tl = ite-inside it.e it.yes it.no _ it.is in (
       omega arith,
       record {
-        known = p.known;
-        yes = it.yes;
-        no = it.no;
-        mid = it.mid;
-        last = p.last;
-        then-held = it.then-held;
-        else-held = it.else-held;
-        inside = p.inside;
-        short = p.short;
-        few = p.few;
+        nested = omega arith;
+        yes = record { known = p.known; block = it.yes; last = it.mid; held = it.then-held; inside = omega arith; short = p.short; few = p.few; shallow = omega arith };
+        no = record { known = p.known; block = it.no; last = p.last; held = it.else-held; inside = p.inside; short = p.short; few = p.few; shallow = omega arith };
         few-then = it.few-then;
         few-else = it.few-else;
         width-then = it.width-then;
         width-else = it.width-else;
-        shallow-then = omega arith;
-        shallow-else = omega arith;
+        same-known = refl;
         ample = omega arith;
       },
     )
@@ -129,7 +120,7 @@ codegen_from_inside-codegen_from_lists-requires t c =
 pub codegen_from_inside-returns : goal.codegen_from_inside-returns
 unfolding insideTally
 codegen_from_inside-returns t c = λ m x z h q.
-    let it = ite-at c.requires.short h q c.if-w-ne-ITE.false in
+    let it = ite-at c.requires.list.short h q c.if-w-ne-ITE.false in
     let ls = c.codegen_from_lists.ensures m _ _ _ _ h it.then-held it.else-held in
     rw it.is
     (record {
@@ -142,24 +133,21 @@ codegen_from_inside-returns t c = λ m x z h q.
 
 pub codegen_from_lists-codegen_from_branch-t-requires : goal.codegen_from_lists-codegen_from_branch-t-requires
 unfolding both
-codegen_from_lists-codegen_from_branch-t-requires t c =
-    let p = c.requires in
-    let g = grows-b p.else-held in
-    (omega arith, (record { known = p.known; block = p.yes; last = p.mid; held = p.then-held; inside = omega arith; short = p.short; few = p.few; shallow = omega arith; ample = omega arith }, p.few-then))
+codegen_from_lists-codegen_from_branch-t-requires t c = (omega arith, (record { list = c.requires.yes; ample = omega arith }, c.requires.few-then))
 
 pub codegen_from_lists-codegen_from_branch-e-requires : goal.codegen_from_lists-codegen_from_branch-e-requires
 unfolding both
 codegen_from_lists-codegen_from_branch-e-requires t c =
     let p = c.requires in
-    let r = c.codegen_from_branch-t.ensures _ _ _ p.few p.then-held in
-    (omega arith, (record { known = p.known; block = p.no; last = p.last; held = starts (sym r.node-is) p.else-held; inside = p.inside; short = p.short; few = p.few; shallow = omega arith; ample = omega (arith, r.spent) }, p.few-else))
+    let r = c.codegen_from_branch-t.ensures _ _ _ p.yes.few p.yes.held in
+    (omega arith, (record { list = moved p.no r.node-is; ample = omega (arith, r.spent) }, p.few-else))
 
 pub codegen_from_lists-put_section-requires : goal.codegen_from_lists-put_section-requires
 unfolding both
 codegen_from_lists-put_section-requires t c =
     let p = c.requires in
-    let r = c.codegen_from_branch-t.ensures _ _ _ p.few p.then-held in
-    let u = (c.codegen_from_branch-e.ensures _ _ _ p.few (starts (sym r.node-is) p.else-held)).spent in
+    let r = c.codegen_from_branch-t.ensures _ _ _ p.yes.few p.yes.held in
+    let u = (c.codegen_from_branch-e.ensures _ _ _ p.no.few (moved p.no r.node-is).held).spent in
     omega (arith, r.spent)
 
 pub codegen_from_lists-returns : goal.codegen_from_lists-returns
@@ -182,16 +170,16 @@ codegen_from_lists-returns t c = λ m x y j z h q1 q2.
 
 pub codegen_from_stmt-codegen_from_own-d-requires : goal.codegen_from_stmt-codegen_from_own-d-requires
 codegen_from_stmt-codegen_from_own-d-requires t c =
-    let p = c.requires in
+    let p = c.requires.list in
     let wd = some-width p.block (not_end p.held (λ z. omega arith)) in
-    record { depth = _; list = p; placed = omega arith }
+    record { depth = _; ready = c.requires; placed = omega arith }
 
 pub codegen_from_stmt-codegen_from_inside-requires : goal.codegen_from_stmt-codegen_from_inside-requires
 codegen_from_stmt-codegen_from_inside-requires t c =
-    let p = c.requires in
+    let p = c.requires.list in
     let op = rw (one_only p.held) at (one-parts p.block) in
     let os = (c.codegen_from_own-d.ensures _ _ _ p.few p.held).spent in
-    (omega arith, record { known = p.known; block = p.block; last = p.last; held = p.held; inside = p.inside; short = p.short; few = p.few; shallow = p.shallow; ample = omega arith })
+    (omega arith, record { list = p; ample = omega arith })
 
 pub codegen_from_stmt-returns : goal.codegen_from_stmt-returns
 codegen_from_stmt-returns t c = λ m x z h q.
