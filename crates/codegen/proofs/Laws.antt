@@ -216,7 +216,7 @@ module _ {c z : Counters} where
   num-does x q f e = rw (q, f, e) (record { does = numbered x })
 
   pub str-spent : {h : ℕ} → z ≡ plus-string h c → Spent c z 0 0 0 1 h
-  str-spent e = rw e (record { at = omega arith; numbers = omega arith; values = omega arith; strings = refl; chars = refl })
+  str-spent e = rw e (omega arith)
 
   -- k is the register as an index, and the text is stored by others
   pub str-does : {n : ℕ} {is : List ℕ} {ns : List ℤ} {ss ps ps' ms : List ℕ} (x : List ℕ) {h k v w : ℕ} → v ≡ c.strings → z ≡ plus-string h c → k ≡ v → h ≡ length x

@@ -21,13 +21,18 @@ plus-string h c = record { at = c.at; numbers = c.numbers; strings = c.strings +
 
 -- ---- how far they go
 
--- i instructions, at most n numbers and v values, s strings of h characters
-pub record Spent (c c' : Counters) (i n v s h : ℕ) : Type 0 where
-  pub at : c'.at ≡ c.at + i
+-- from c to c': at most i instructions, n numbers and v values more, and s strings of h characters
+pub record Grew (c c' : Counters) (i n v s h : ℕ) : Type 0 where
+  pub at : c'.at ≤ c.at + i
   pub numbers : c'.numbers ≤ c.numbers + n
   pub values : c'.values ≤ c.values + v
   pub strings : c'.strings ≡ c.strings + s
   pub chars : c'.chars ≡ c.chars + h
+
+-- and so many instructions exactly
+pub record Spent (c c' : Counters) (i n v s h : ℕ) : Type 0 where
+  pub exact : c'.at ≡ c.at + i
+  pub grew : Grew c c' i n v s h
 
 -- there is room for i instructions, n numbers and v values: in tables of il and nl words, and in the 16 bits of a field
 pub record Room (c : Counters) (i n v il nl : ℕ) : Type 0 where

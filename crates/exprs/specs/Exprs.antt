@@ -1,7 +1,8 @@
 -- What lowering an expression of the node table asks and does.
 use Rattle.std.specs.Prelude.{◌≡◌, List, ℕ, ◌+◌, ◌*◌, ◌≤◌, ◌<◌, ◌%◌, length, get_or}
 use Rattle.rules.specs.Constants.{mostBytes, mostNames, numberBits, charBits, byteBits}
-use Rattle.rules.specs.Tree.{Expr, binop, unop, ident, number, string, ofExpr}
+use Rattle.rules.specs.Tree.{Expr, binop, unop, ident, number, string, Tally, ofExpr}
+use Rattle.rules.specs.CodegenData.{Lower}
 use Rattle.rules.specs.Annotate.{codegenFromExpr}
 use Rattle.nodes.specs.Words.{binopKind, unopKind}
 use Rattle.nodes.specs.Holds.{HoldsE}
@@ -18,13 +19,13 @@ exprCost (ident x) = 0
 exprCost (number z) = 1
 exprCost (string t) = 1
 
--- there is room for e, in tables of so many words, and n names are in theirs
-pub record Fits (e : Expr) (n : ℕ) (c : Counters) (il nl sl pl ml : ℕ) : Type 0 where
-  pub room : Room c (9 * (ofExpr e).nodes) (2 * (ofExpr e).nodes) (3 * (ofExpr e).nodes) il nl
-  pub strings : c.strings + (ofExpr e).strings ≤ sl
-  pub strings-fit : c.strings + (ofExpr e).strings ≤ 65535
-  pub chars : c.chars + (ofExpr e).characters ≤ pl
-  pub chars-fit : c.chars + (ofExpr e).characters ≤ 65535
+-- there is room for a part of the tree that counts k, in tables of so many words, and n names are in theirs
+pub record Fits (k : Tally) (n : ℕ) (c : Counters) (il nl sl pl ml : ℕ) : Type 0 where
+  pub room : Room c (9 * k.nodes) (2 * k.nodes) (3 * k.nodes) il nl
+  pub strings : c.strings + k.strings ≤ sl
+  pub strings-fit : c.strings + k.strings ≤ 65535
+  pub chars : c.chars + k.characters ≤ pl
+  pub chars-fit : c.chars + k.characters ≤ 65535
   pub names : n ≤ ml
 
 -- an expression is held at node i of the table t over the file s, and there is room for it
@@ -36,7 +37,7 @@ pub record Ready (s t : List ℕ) (i : ℕ) (c : Counters) (il nl sl pl ml : ℕ
   pub inside : last ≤ length t
   pub short : length s ≤ mostBytes
   pub few : names ≤ mostNames
-  pub fits : Fits tree names c il nl sl pl ml
+  pub fits : Fits (ofExpr tree) names c il nl sl pl ml
 
 -- the same of a word without operands
 pub record LeafReady (s : List ℕ) (w : ℕ) (c : Counters) (il nl sl pl ml : ℕ) : Type 0 where
@@ -51,12 +52,20 @@ pub record LeafReady (s : List ℕ) (w : ℕ) (c : Counters) (il nl sl pl ml : �
   pub no-unop : w % 16 ≡ unopKind → ⊥
   pub short : length s ≤ mostBytes
   pub few : names ≤ mostNames
-  pub fits : Fits tree names c il nl sl pl ml
+  pub fits : Fits (ofExpr tree) names c il nl sl pl ml
 
--- the expression e of a tree with n names is lowered: from c and t to c' and t', its value register is a
-pub record Lowers (n : ℕ) (e : Expr) (c : Counters) (t t' : Lent) (a : ℕ) (c' : Counters) : Type 0 where
-  pub does : Does n (codegenFromExpr e) c t t' a c'
-  pub spent : Spent c c' (exprCost e) (2 * (ofExpr e).nodes) (3 * (ofExpr e).nodes) (ofExpr e).strings (ofExpr e).characters
+-- what the expression e takes, and i instructions, n numbers and v values more
+abbrev pub SpentOn : Expr → ℕ → ℕ → ℕ → Counters → Counters → Type 0
+SpentOn e i n v c c' = Spent c c' (exprCost e + i) (2 * (ofExpr e).nodes + n) (3 * (ofExpr e).nodes + v) (ofExpr e).strings (ofExpr e).characters
+
+-- m, of a tree with k names, lowers e and takes so much more: from c and t to c' and t', its answer is r
+pub record LowersTo (m : Lower ℕ) (k : ℕ) (e : Expr) (i n v : ℕ) (c : Counters) (t t' : Lent) (r : ℕ) (c' : Counters) : Type 0 where
+  pub does : Does k m c t t' r c'
+  pub spent : SpentOn e i n v c c'
+
+-- the expression alone
+abbrev pub Lowers : ℕ → Expr → Counters → Lent → Lent → ℕ → Counters → Type 0
+Lowers k e = LowersTo (codegenFromExpr e) k e 0 0 0
 
 -- the bits of a number stand at p, and those of n characters
 pub record NumberAt (s : List ℕ) (p : ℕ) : Type 0 where

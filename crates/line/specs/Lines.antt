@@ -2,7 +2,7 @@
 use Rattle.std.specs.Prelude.{◌≡◌, true, List, [], ◌∷◌, map, ℕ, ◌+◌, ◌*◌, ◌≤◌, ◌<◌, length}
 use Rattle.std.proofs.lemmas.List.Edits.{sets}
 use Rattle.rules.specs.Word.{insWord}
-use Rattle.rules.specs.Tree.{Block, Tally, ofBlock}
+use Rattle.rules.specs.Tree.{Block, ofBlock}
 use Rattle.rules.specs.Machine.{SectionCode}
 use Rattle.rules.specs.Tables.{runWords, allCode}
 use Rattle.rules.specs.Script.{Stmts}
@@ -13,7 +13,7 @@ use Rattle.nodes.specs.Width.{width}
 use Rattle.codegen.specs.declared.state.Counters.{Counters}
 use Rattle.codegen.specs.Does.{Lent}
 use Rattle.stmts.specs.Makes.{Regs, placed}
-use Rattle.stmts.specs.Lists.{rest, ListReady}
+use Rattle.stmts.specs.Lists.{rest, ListReady, GrewBy}
 use Rattle.stmts.specs.Parts.{ownCost, insideTally}
 
 -- the nodes behind the first statement's own
@@ -36,21 +36,14 @@ pub record LineReady (s t : List ℕ) (i count depth line j head : ℕ) (c : Cou
   pub behind : c.at + 9 * innerNodes ready.list.block ≤ il
   pub slot : line < zl
 
--- what a line counted: n nodes behind the own ones of its first statement, k in all
-pub record LineSpent (n : ℕ) (k : Tally) (c c' : Counters) : Type 0 where
-  pub at : c'.at ≤ c.at + 9 * n
-  pub numbers : c'.numbers ≤ c.numbers + 2 * k.nodes
-  pub values : c'.values ≤ c.values + 3 * k.nodes
-  pub strings : c'.strings ≡ c.strings + k.strings
-  pub chars : c'.chars ≡ c.chars + k.characters
-
 -- the line's sections are made: the first, a line start, at the line's number; the placeholder and the others from number n on
 pub record LineWent (m e line n head head' : ℕ) (b : Lent) (c : Counters) (t t' : Lent) (se se' : List ℕ) (c' : Counters) (p : Stmts × CodegenData) : Type 0 where
   pub regs : Regs m e b c' t' p.1
   pub parted : Parted (head_of e (stmtSections true e n e p.0) ∷ []) (tailOf (stmtSections true e n e p.0)) line n head c.at head' c'.at t.instrs t'.instrs se se'
 
+-- and the instructions behind the first section are those of the nodes behind its own
 pub record LineDone (m : ℕ) (x : Block) (line n head : ℕ) (c : Counters) (t t' : Lent) (se se' : List ℕ) (head' : ℕ) (c' : Counters) (number : ℕ) : Type 0 where
   pub does : (e : ℕ) (b : Lent) (g : CodegenData) → Regs m e b c t g → LineWent m e line n head head' b c t t' se se' c' (annotateStmts x g)
   pub cost : head' ≡ head + ownCost x
-  pub spent : LineSpent (innerNodes x) (ofBlock x) c c'
+  pub spent : GrewBy (innerNodes x) (ofBlock x) c c'
   pub number_is : number ≡ n + width x

@@ -148,7 +148,7 @@ lines_none bs e =
     (record {
       does = λ b g r p q. record { regs = r; parted = parted-none };
       cost = omega arith;
-      spent = record { at = omega arith; numbers = omega arith; values = omega arith; strings = omega arith; chars = omega arith };
+      spent = omega arith;
       number_is = omega arith;
     })
 

@@ -11,9 +11,9 @@ use Rattle.codegen.specs.declared.state.Counters.{Counters}
 use Rattle.words.specs.declared.instr.Section.{Section}
 use Rattle.codegen.specs.Does.{Lent}
 use Rattle.stmts.specs.Makes.{Regs, placed}
-use Rattle.stmts.specs.Lists.{deep, Ample}
+use Rattle.stmts.specs.Lists.{deep, Ample, GrewBy}
 use Rattle.stmts.specs.Parts.{ownCost}
-use Rattle.line.specs.Lines.{innerNodes, Parted, LineSpent}
+use Rattle.line.specs.Lines.{innerNodes, Parted}
 
 -- the own instructions of the lines' first statements, and the nodes behind those
 unfoldable pub ownCosts : List Block → ℕ
@@ -80,7 +80,7 @@ pub record LinesWent (m L k n head head' : ℕ) (b : Lent) (c : Counters) (t t' 
 pub record LinesDone (m L k : ℕ) (bs : List Block) (n head : ℕ) (c : Counters) (t t' : Lent) (se se' : List ℕ) (head' : ℕ) (c' : Counters) (number : ℕ) : Type 0 where
   pub does : (b : Lent) (g : CodegenData) → Regs m c.err.0 b c t g → head + ownCosts bs ≤ c.at → L ≤ n → LinesWent m L k n head head' b c t t' se se' c' (annotateLines bs g)
   pub cost : head' ≡ head + ownCosts bs
-  pub spent : LineSpent (innerAll bs) (ofLines bs) c c'
+  pub spent : GrewBy (innerAll bs) (ofLines bs) c c'
   pub number_is : number ≡ n + widths bs
 
 -- midway, before line k: whatever the lines from k on do, the whole then does

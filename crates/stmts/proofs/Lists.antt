@@ -8,7 +8,7 @@ use native.Mathlib.Numerals.{add-one}
 use native.Mathlib.Omega.{arith}
 use lib.ListN.{length, set, length-append}
 use Rattle.rules.specs.Word.{insWord, runWord}
-use Rattle.rules.specs.Tree.{Block, end, ite, assign}
+use Rattle.rules.specs.Tree.{Block, end, ite, assign, Tally, both}
 use Rattle.rules.specs.Machine.{SectionOrLine, section, SectionCode}
 use Rattle.rules.specs.Tables.{runWords, allCode, runOf}
 use Rattle.rules.specs.Script.{Stmts, nil, plain, isNil}
@@ -22,7 +22,7 @@ use Rattle.codegen.specs.Does.{Lent}
 use Rattle.laws.specs.Stores.{sets-sets}
 use Rattle.codegen.proofs.Lists.{map-append, length-map}
 use Rattle.stmts.specs.Makes.{Stored}
-use Rattle.stmts.specs.Lists.{Wrote, only, rest, before, onward, onwardB, isEnd, Single, Lists, Branch}
+use Rattle.stmts.specs.Lists.{Wrote, only, rest, before, onward, onwardB, isEnd, Single, Lists, Branch, GrewAll}
 
 pub append-nil : {A : Type 0} (l : List A) → l ++ [] ≡ l
 append-nil [] = refl
@@ -61,6 +61,12 @@ wrote-more {a} {b} {n} {n1} {k} {k1} {k2} {is} {is1} {is2} {se} {se1} {se2} x e 
       ends = rw (all_append, length-append) (omega (arith, x.ends, y.ends));
       words = rw (y.words, x.words, e, x.ends, runs_append, ← runs-length k a) (sets-sets (runWords k a) se n (runWords (k + length (allCode a)) b));
     }
+
+-- ---- how far the counters go: two parts of the tree, one after the other
+
+pub grew-both : (k l : Tally) {c c1 c2 : Counters} → GrewAll k c c1 → GrewAll l c1 c2 → GrewAll (both k l) c c2
+unfolding both
+grew-both k l x y = omega arith
 
 -- ---- the first statement and the others
 

@@ -60,4 +60,4 @@ module _ {s t : List ℕ} {i0 count depth n0 k : ℕ} {l0 : Bool} {c0 : Counters
       let u = mid.going _ _ _ a q in
       let e = is-end u.held (omega arith) in
       u.goes _ _ _ _ _
-      (rw e.is (record { does = lists-none; spent = record { at = omega arith; numbers = omega arith; values = omega arith; strings = omega arith; chars = omega arith }; node-is = e.here; number_is = omega arith }))
+      (rw e.is (record { does = lists-none; spent = omega arith; node-is = e.here; number_is = omega arith }))

@@ -15,7 +15,8 @@ use Rattle.nodes.specs.Width.{width, orOne}
 use Rattle.nodes.specs.Holds.{HoldsB}
 use Rattle.codegen.specs.declared.state.Counters.{Counters}
 use Rattle.codegen.specs.Does.{Lent}
-use Rattle.codegen.specs.Costs.{Room}
+use Rattle.codegen.specs.Costs.{Grew}
+use Rattle.exprs.specs.Exprs.{Fits}
 use Rattle.stmts.specs.Makes.{Regs, Stored}
 
 -- the sections ss stand in the tables: instructions from k to k', words from number n on
@@ -107,12 +108,7 @@ deep (assign x o e xs) = deep xs
 
 -- there is room for a part of the tree that counts k and makes w sections, the first with number j; n names are in their table
 pub record Ample (k : Tally) (w n j : ℕ) (c : Counters) (il nl sl pl ml zl : ℕ) : Type 0 where
-  pub room : Room c (9 * k.nodes) (2 * k.nodes) (3 * k.nodes) il nl
-  pub strings : c.strings + k.strings ≤ sl
-  pub strings-fit : c.strings + k.strings ≤ 65535
-  pub chars : c.chars + k.characters ≤ pl
-  pub chars-fit : c.chars + k.characters ≤ 65535
-  pub names : n ≤ ml
+  pub fits : Fits k n c il nl sl pl ml
   pub sections : j + w ≤ zl
   pub sections-fit : j + w ≤ 65535
   pub small : il < 65536
@@ -133,24 +129,24 @@ pub record ListReady (s t : List ℕ) (i count depth j : ℕ) (c : Counters) (il
   pub list : Held s t i count depth
   pub ample : Ample (ofBlock list.block) (width list.block) list.known j c il nl sl pl ml zl
 
--- what was counted
-pub record SpentAll (k : Tally) (c c' : Counters) : Type 0 where
-  pub at : c'.at ≤ c.at + 9 * k.nodes
-  pub numbers : c'.numbers ≤ c.numbers + 2 * k.nodes
-  pub values : c'.values ≤ c.values + 3 * k.nodes
-  pub strings : c'.strings ≡ c.strings + k.strings
-  pub chars : c'.chars ≡ c.chars + k.characters
+-- a part of the tree that counts k takes at most 9 instructions, 2 numbers and 3 values a node; its instructions are those of n nodes
+abbrev pub GrewBy : ℕ → Tally → Counters → Counters → Type 0
+GrewBy n k c c' = Grew c c' (9 * n) (2 * k.nodes) (3 * k.nodes) k.strings k.characters
+
+-- of all its nodes
+abbrev pub GrewAll : Tally → Counters → Counters → Type 0
+GrewAll k = GrewBy k.nodes k
 
 -- the list x is lowered; its nodes end at z, its sections at a number
 pub record ListDone (m : ℕ) (x : Block) (z : ℕ) (l : Bool) (n k : ℕ) (c : Counters) (t t' : Lent) (se se' : List ℕ) (c' : Counters) (node number : ℕ) : Type 0 where
   pub does : Lists m x l n k c t t' se se' c'
-  pub spent : SpentAll (ofBlock x) c c'
+  pub spent : GrewAll (ofBlock x) c c'
   pub node-is : node ≡ z
   pub number_is : number ≡ n + width x
 
 pub record BranchDone (m : ℕ) (x : Block) (z : ℕ) (n j : ℕ) (c : Counters) (t t' : Lent) (se se' : List ℕ) (c' : Counters) (node : ℕ) : Type 0 where
   pub does : Branch m x n j c t t' se se' c'
-  pub spent : SpentAll (ofBlock x) c c'
+  pub spent : GrewAll (ofBlock x) c c'
   pub node-is : node ≡ z
 
 -- no table grew or shrank
@@ -209,4 +205,4 @@ pub record IteDone (m : ℕ) (x y : Block) (l : Bool) (j v w k : ℕ) (c : Count
   pub yes : Branch m x j (j + v + w) c t mid-tables se mid-sections mid-counters
   pub no : Branch m y (j + v) (j + v + w) mid-counters mid-tables t' mid-sections end-sections c'
   pub join : Stored (inner [] (link l k)) (j + v + w) c'.at c'.at t'.instrs t'.instrs end-sections se'
-  pub spent : SpentAll (both (ofBlock x) (ofBlock y)) c c'
+  pub spent : GrewAll (both (ofBlock x) (ofBlock y)) c c'

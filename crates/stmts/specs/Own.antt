@@ -1,21 +1,14 @@
 -- What lowering a statement's own instructions asks: its expression is held at node i, and there is room for it and for a instructions, n numbers
 -- and v values more.
 use Rattle.std.specs.Prelude.{List, ℕ, ◌+◌, ◌*◌, ◌<◌}
-use Rattle.rules.specs.Tree.{Expr, ofExpr}
-use Rattle.rules.specs.CodegenData.{Lower}
+use Rattle.rules.specs.Tree.{ofExpr}
 use Rattle.codegen.specs.declared.state.Counters.{Counters}
-use Rattle.codegen.specs.Does.{Lent, Does}
-use Rattle.codegen.specs.Costs.{Spent, Room}
-use Rattle.exprs.specs.Exprs.{Ready, exprCost}
+use Rattle.codegen.specs.Costs.{Room}
+use Rattle.exprs.specs.Exprs.{Ready}
 
 pub record Holding (s t : List ℕ) (i : ℕ) (c : Counters) (a n v il nl sl pl ml : ℕ) : Type 0 where
   pub ready : Ready s t i c il nl sl pl ml
   pub room : Room c (9 * (ofExpr ready.tree).nodes + a) (2 * (ofExpr ready.tree).nodes + n) (3 * (ofExpr ready.tree).nodes + v) il nl
-
--- the code does what m does, which lowers e; it takes a instructions, n numbers and v values more
-pub record LowersTo (m : Lower ℕ) (k : ℕ) (e : Expr) (a n v : ℕ) (c : Counters) (t t' : Lent) (r : ℕ) (c' : Counters) : Type 0 where
-  pub does : Does k m c t t' r c'
-  pub spent : Spent c c' (exprCost e + a) (2 * (ofExpr e).nodes + n) (3 * (ofExpr e).nodes + v) (ofExpr e).strings (ofExpr e).characters
 
 -- an assignment to the name x
 pub record Setting (s t : List ℕ) (i : ℕ) (c : Counters) (x il nl sl pl ml : ℕ) : Type 0 where

@@ -14,7 +14,7 @@ use Rattle.codegen.specs.Does.{Lent}
 use Rattle.exprs.specs.Exprs.{exprCost}
 use Rattle.stmts.specs.Told.{assignCost}
 use Rattle.stmts.specs.Makes.{Regs, Stored, made, nothing, jump, jumpCost}
-use Rattle.stmts.specs.Lists.{Wrote, isEnd, Ample, Held, ListReady, SpentAll}
+use Rattle.stmts.specs.Lists.{Wrote, isEnd, Ample, Held, ListReady, GrewAll}
 
 -- ---- the own section
 
@@ -100,7 +100,7 @@ pub record Owns (m : ℕ) (x : Block) (s l : Bool) (n k slot : ℕ) (c : Counter
 pub record OwnDone (m : ℕ) (x : Block) (s l : Bool) (n k slot : ℕ) (c : Counters) (t t' : Lent) (se se' : List ℕ) (c' : Counters) : Type 0 where
   pub does : Owns m x s l n k slot c t t' se se' c'
   pub cost : c'.at ≡ c.at + ownCost x
-  pub spent : SpentAll (ofBlock (bare x)) c c'
+  pub spent : GrewAll (ofBlock (bare x)) c c'
 
 -- a statement is held at node i, and there is room for the lists that it holds; j is its own section's number
 pub record InsideReady (s t : List ℕ) (i depth j : ℕ) (c : Counters) (il nl sl pl ml zl : ℕ) : Type 0 where
@@ -117,4 +117,4 @@ pub record Insides (m : ℕ) (x : Block) (l : Bool) (n k : ℕ) (c : Counters) (
 
 pub record InsideDone (m : ℕ) (x : Block) (l : Bool) (n k : ℕ) (c : Counters) (t t' : Lent) (se se' : List ℕ) (c' : Counters) : Type 0 where
   pub does : Insides m x l n k c t t' se se' c'
-  pub spent : SpentAll (insideTally x) c c'
+  pub spent : GrewAll (insideTally x) c c'

@@ -14,7 +14,8 @@ ghost use Rattle.words.specs.Told.{Shape};
 ghost use Rattle.codegen.specs.Does.{lent, DoesBoth};
 ghost use Rattle.codegen.specs.Costs.{Spent, Room, guardCost};
 ghost use Rattle.stmts.specs.Told.{assignTold, assignCost};
-ghost use Rattle.stmts.specs.Own.{Holding, Setting, LowersTo};
+ghost use Rattle.exprs.specs.Exprs.{LowersTo};
+ghost use Rattle.stmts.specs.Own.{Holding, Setting};
 
 use codegen::operators::{make_arith_binop, make_truthy, numberify};
 use codegen::state::{Counters, GotNum, emit, get_variable};

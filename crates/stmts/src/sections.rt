@@ -8,9 +8,9 @@ ghost use Rattle.std.proofs.lemmas.List.Edits.{sets};
 ghost use Rattle.rules.specs.Constants.{mostNames};
 ghost use Rattle.rules.specs.Tables.{runOf};
 ghost use Rattle.rules.specs.Tree as Tree;
-ghost use Rattle.rules.specs.Tree.{Block, ofExpr};
+ghost use Rattle.rules.specs.Tree.{Block};
 ghost use Rattle.codegen.specs.Costs.{Spent};
-ghost use Rattle.exprs.specs.Exprs.{exprCost};
+ghost use Rattle.exprs.specs.Exprs.{SpentOn};
 ghost use Rattle.stmts.specs.Told.{assignCost};
 ghost use Rattle.rules.specs.Word.{runWord, insWord};
 ghost use Rattle.rules.specs.Parse.{assignops};
@@ -120,7 +120,7 @@ pub fn codegen_from_goto(
     place: Place,
 ) -> Counters
     requires { Holding s.now nodes.now i c 2 1 0 (length instrs.old) (length numbers.old) (length strings.old) (length pool.old) (length names.old) × (place.slot.0 < length sections.old) × (length instrs.old < 65536) }
-    ensures { (m : ℕ) (e : Tree.Expr) (j : ℕ) → m ≤ mostNames → HoldsE nodes.now s.now m i e j → Makes m (lineNumber e) place.start nothing Machine.line place.slot.0 c (lent instrs.old numbers.old strings.old pool.old names.old) (lent instrs.new numbers.new strings.new pool.new names.new) sections.old sections.new result × Spent c result (exprCost e + 2) (2 * (ofExpr e).nodes + 1) (3 * (ofExpr e).nodes + 0) (ofExpr e).strings (ofExpr e).characters }
+    ensures { (m : ℕ) (e : Tree.Expr) (j : ℕ) → m ≤ mostNames → HoldsE nodes.now s.now m i e j → Makes m (lineNumber e) place.start nothing Machine.line place.slot.0 c (lent instrs.old numbers.old strings.old pool.old names.old) (lent instrs.new numbers.new strings.new pool.new names.new) sections.old sections.new result × SpentOn e 2 1 0 c result }
 {
     let n = line_number(s, nodes, instrs, numbers, strings, pool, names, i, c);
     let d = n.next;
@@ -153,7 +153,7 @@ pub fn codegen_from_set(
     op: u64,
 ) -> Counters
     requires { Setting s.now nodes.now i c x (length instrs.old) (length numbers.old) (length strings.old) (length pool.old) (length names.old) × (op < 7) × (place.slot.0 < length sections.old) × (length instrs.old < 65536) }
-    ensures { (m : ℕ) (e : Tree.Expr) (j : ℕ) → m ≤ mostNames → x < m → HoldsE nodes.now s.now m i e j → Makes m (codegenFromAssign x (get_or assignops op Tree.PowTo) e) place.start nothing (λ _. link place.linked place.next.0) place.slot.0 c (lent instrs.old numbers.old strings.old pool.old names.old) (lent instrs.new numbers.new strings.new pool.new names.new) sections.old sections.new result × Spent c result (exprCost e + assignCost (get_or assignops op Tree.PowTo)) (2 * (ofExpr e).nodes + 2) (3 * (ofExpr e).nodes + 2) (ofExpr e).strings (ofExpr e).characters }
+    ensures { (m : ℕ) (e : Tree.Expr) (j : ℕ) → m ≤ mostNames → x < m → HoldsE nodes.now s.now m i e j → Makes m (codegenFromAssign x (get_or assignops op Tree.PowTo) e) place.start nothing (λ _. link place.linked place.next.0) place.slot.0 c (lent instrs.old numbers.old strings.old pool.old names.old) (lent instrs.new numbers.new strings.new pool.new names.new) sections.old sections.new result × SpentOn e (assignCost (get_or assignops op Tree.PowTo)) 2 2 c result }
 {
     let d = codegen_from_assign(s, nodes, instrs, numbers, strings, pool, names, i, c, x, op);
     put_section(
@@ -196,7 +196,7 @@ pub fn codegen_from_test(
     target: Section,
 ) -> Counters
     requires { Holding s.now nodes.now i c 2 1 0 (length instrs.old) (length numbers.old) (length strings.old) (length pool.old) (length names.old) × (place.slot.0 < length sections.old) × (length instrs.old < 65536) }
-    ensures { (m : ℕ) (e : Tree.Expr) (j : ℕ) → m ≤ mostNames → HoldsE nodes.now s.now m i e j → Makes m (conditionS e) place.start (jump empty target.0) (λ _. Machine.section place.next.0) place.slot.0 c (lent instrs.old numbers.old strings.old pool.old names.old) (lent instrs.new numbers.new strings.new pool.new names.new) sections.old sections.new result × Spent c result (exprCost e + 1 + jumpCost empty) (2 * (ofExpr e).nodes + 1) (3 * (ofExpr e).nodes + 0) (ofExpr e).strings (ofExpr e).characters }
+    ensures { (m : ℕ) (e : Tree.Expr) (j : ℕ) → m ≤ mostNames → HoldsE nodes.now s.now m i e j → Makes m (conditionS e) place.start (jump empty target.0) (λ _. Machine.section place.next.0) place.slot.0 c (lent instrs.old numbers.old strings.old pool.old names.old) (lent instrs.new numbers.new strings.new pool.new names.new) sections.old sections.new result × SpentOn e (1 + jumpCost empty) 1 0 c result }
 {
     let n = condition(s, nodes, instrs, numbers, strings, pool, names, i, c);
     let test = n.reg;

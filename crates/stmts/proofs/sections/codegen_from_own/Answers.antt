@@ -36,7 +36,7 @@ returns-then-kind-eq-GOTO c = λ m x z h q.
     let r = c.codegen_from_goto.ensures m _ _ h b.to in
     let s = r.1 in
     let k = expr-most b.e in
-    rw b.is (record { does = owns-goto b.e r.0; cost = s.at; spent = omega arith })
+    rw b.is (record { does = owns-goto b.e r.0; cost = s.exact; spent = omega arith })
 
 pub codegen_from_step-requires : goal.codegen_from_step-requires
 codegen_from_step-requires c =
@@ -51,7 +51,7 @@ returns-then-kind-eq-STEP c = λ m x z h q.
     let b = step-at h q c.if-kind-eq-STEP.true in
     let r = c.codegen_from_step.ensures m _ _ _ b.known in
     let s = r.1 in
-    rw b.is (record { does = owns-step _ _ r.0; cost = s.at; spent = omega arith })
+    rw b.is (record { does = owns-step _ _ r.0; cost = s.exact; spent = omega arith })
 
 pub codegen_from_set-requires : goal.codegen_from_set-requires
 codegen_from_set-requires c =
@@ -75,7 +75,7 @@ returns-then-kind-eq-ASSIGN c = λ m x z h q.
     let s = r.1 in
     let k = expr-most b.e in
     let o = assign-most (get_or assignops (get_or c.args.nodes.now c.args.i 0 / 16 % 16) PowTo) in
-    rw b.is (record { does = owns-assign _ _ b.e r.0; cost = s.at; spent = omega arith })
+    rw b.is (record { does = owns-assign _ _ b.e r.0; cost = s.exact; spent = omega arith })
 
 pub overflow_add-first : goal.overflow_add-first
 overflow_add-first c =

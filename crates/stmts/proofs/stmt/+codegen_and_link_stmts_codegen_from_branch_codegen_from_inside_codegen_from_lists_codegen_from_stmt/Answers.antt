@@ -6,7 +6,7 @@ use Rattle.nodes.specs.Words.{iteKind}
 use Rattle.nodes.proofs.Blocks.{is-end, tag, kind-held}
 use Rattle.nodes.proofs.Width.{or-one}
 use Rattle.stmts.specs.Parts.{insideTally}
-use Rattle.stmts.proofs.Lists.{some-width, branch-empty, branch-list, stored-empty}
+use Rattle.stmts.proofs.Lists.{some-width, grew-both, branch-empty, branch-list, stored-empty}
 use Rattle.stmts.proofs.Parts.{one-parts, none_inside, ite-inside, inside-none, inside-ite, lists-one}
 use Rattle.stmts.proofs.Places.{not_end, ite-at, ite-sum}
 use Rattle.stmts.proofs.Splits.{parts, cut, moved, starts, one_only}
@@ -151,7 +151,6 @@ codegen_from_lists-put_section-requires t c =
     omega (arith, r.spent)
 
 pub codegen_from_lists-returns : goal.codegen_from_lists-returns
-unfolding both
 codegen_from_lists-returns t c = λ m x y j z h q1 q2.
     let r1 = c.codegen_from_branch-t.ensures m x j h q1 in
     let r2 = c.codegen_from_branch-e.ensures m y z h (starts (sym r1.node-is) q2) in
@@ -163,7 +162,7 @@ codegen_from_lists-returns t c = λ m x y j z h q1 q2.
       yes = r1.does;
       no = r2.does;
       join = stored-empty c.put_section.ensures (rw c.successor.ensures);
-      spent = omega (arith, r1.spent, r2.spent);
+      spent = grew-both _ _ r1.spent r2.spent;
     }
 
 -- ---- a statement
