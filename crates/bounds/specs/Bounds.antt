@@ -1,17 +1,17 @@
 -- The counts of a parsed tree's machine lie below 65,535.
-use Rattle.std.specs.Prelude.{◌≡◌, refl, List, [], ◌∷◌, ℕ, zero, suc, ◌+◌, ◌*◌, ◌≤◌, ◌<◌, length}
-use Rattle.std.proofs.Common.{sym, ap, ◌∙◌, arith}
-use Rattle.rules.specs.Bits.{Res, ok}
+use Rattle.std.specs.Prelude.{◌≡◌, refl, List, [], ◌∷◌, ℕ, ◌≤◌, ◌<◌}
+use Rattle.std.proofs.Common.{arith}
+use Rattle.rules.specs.Bits.{ok}
 use Rattle.rules.specs.Tree.{Tree, Expr, Block, Tally, both, node, statement, ofExpr, ofBlock, ofLines, binop, unop, ident, number, string, goto, ite, assign, end}
 use Rattle.rules.specs.Tree as Tree
 use Rattle.rules.specs.Parse.{parse}
 use Rattle.rules.specs.Tables.{Counts, countsOf}
-use Rattle.rules.specs.Annotate.{annotate, fresh}
+use Rattle.rules.specs.Annotate.{fresh}
 use Rattle.rules.specs.Lowered.{Options, lowered}
 use Rattle.rules.specs.Operations.{size_of, estimate}
-use Rattle.bounds.specs.LimitsTree.{Limits, limits}
+use Rattle.bounds.specs.LimitsTree.{limits}
 use Rattle.bounds.specs.Own.{annotate-made}
-use Rattle.bounds.specs.Estimate.{WithinEstimate, estimated}
+use Rattle.bounds.specs.Estimate.{estimated}
 
 pub record Few (k : Tally) : Type 0 where
   pub statements : k.statements ≤ k.nodes

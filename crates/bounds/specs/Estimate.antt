@@ -1,25 +1,23 @@
 -- A tree's lowered machine keeps within the estimates.
-use Rattle.std.specs.Prelude.{◌≡◌, refl, Bool, true, false, cond, List, [], ◌∷◌, ◌++◌, map, ℕ, zero, suc, ◌+◌, ◌*◌, ◌≤◌, ◌<◌, eqb, length, replicate}
-use Rattle.std.proofs.Common.{sym, ap, ap₂, ◌∙◌, subst, arith, length-append}
-use Rattle.std.proofs.Math.Option.{Option, none, some}
+use Rattle.std.specs.Prelude.{◌≡◌, refl, Bool, true, false, List, [], ◌∷◌, ◌++◌, ℕ, suc, ◌+◌, ◌≤◌, length}
+use Rattle.std.proofs.Common.{ap, ◌∙◌, arith, length-append}
+use Rattle.std.proofs.Math.Option.{Option, none}
 use Rattle.std.proofs.lemmas.List.{length-map, length-replicate}
 use Rattle.rules.specs.Instr.{Instruction}
-use Rattle.rules.specs.Tree.{Name, Tree, Tally, ofLines}
-use Rattle.rules.specs.Machine.{SectionOrLine, SectionCode, absent, Machine}
+use Rattle.rules.specs.Tree.{Name, Tree}
+use Rattle.rules.specs.Machine.{SectionCode}
 use Rattle.rules.specs.Tables.{Counts, countsOf, allCode}
 use Rattle.rules.specs.Script.{Stmts, nil, plain, goto, ite, Script}
-use Rattle.rules.specs.CodegenData.{CodegenData}
 use Rattle.rules.specs.Annotate.{annotate, fresh}
 use Rattle.rules.specs.Assemble.{nextLine, orOne, sectionsMade, ownCode, entry, link, cond_code, inner, orEmpty, stmtSections, head_of, tailOf, lineSections, heads, tails, sectionsOf}
-use Rattle.rules.specs.Replace.{Rule, stays, goes, turns, number, result, blank, ruleOf, Regs, replaceBy, replaceIns, replaceCode, replaceSections, replaced}
-use Rattle.rules.specs.Lowered.{Options, nameWords, spans, texts, assemble, lowered}
-use Rattle.rules.specs.Operations.{Size, size_of, estimate}
-use Rattle.rules.specs.Demand.{All}
+use Rattle.rules.specs.Replace.{Rule, stays, goes, turns, number, result, blank, ruleOf, Regs, replaceBy, replaceIns, replaceCode, replaceSections}
+use Rattle.rules.specs.Lowered.{Options, nameWords, spans, texts, lowered}
+use Rattle.rules.specs.Operations.{size_of, estimate}
 use Rattle.bounds.specs.Lengths.{length-low, length-tailOf, heads-length}
-use Rattle.bounds.specs.Room.{Went}
-use Rattle.bounds.specs.Own.{code_of, sizes, codes, MadeAll, annotate-made}
+use Rattle.bounds.specs.Own.{code_of, sizes, codes, annotate-made}
 use Rattle.bounds.specs.Stay.{numbers_stay, strings-stay}
 use Rattle.bounds.specs.Lengths.{length-spans}
+use Rattle.laws.specs.Sections.{replaced-length}
 
 -- ---- sections
 
@@ -34,10 +32,6 @@ unfolding sectionsOf
 sections-length t =
     let L = length t in
     omega (arith, length-append (heads L 0 L t) (tails L 0 L t), heads-length L 0 L t, tails-length L 0 L t)
-
-pub replaced-length : (p : ℕ) (σ : Regs) (m : List SectionCode) → length (replaceSections p σ m).0 ≡ length m
-replaced-length p σ [] = refl
-replaced-length p σ (s ∷ m) = ap suc (replaced-length p (replaceCode p σ s.instrs).1 m)
 
 -- ---- instructions
 

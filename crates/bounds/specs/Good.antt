@@ -1,20 +1,15 @@
 -- A script and sections whose instructions are P and whose gotos go by registers that are G.
-use Rattle.std.specs.Prelude.{◌≡◌, ◌↔◌, List, [], ◌∷◌, map, ℕ, ◌<◌, length, get_or}
-use Rattle.std.proofs.Math.Option.{none}
+use Rattle.std.specs.Prelude.{List, [], ◌∷◌, ℕ}
 use Rattle.rules.specs.Instr.{Instruction, shown}
-use Rattle.rules.specs.Machine.{SectionOrLine, unfixed, section, line, SectionCode, absent}
-use Rattle.rules.specs.Walk.{Ask, atJump, atGoto, ask, lost, End, more, over, walkSections, enters}
-use Rattle.rules.specs.Combine.{pair}
+use Rattle.rules.specs.Machine.{SectionOrLine, unfixed, section, line, SectionCode}
 use Rattle.rules.specs.Script.{Stmts, nil, plain, goto, ite, Script}
 use Rattle.rules.specs.Assemble.{condJump}
-use Rattle.rules.specs.ReadScript.{readScript}
-use Rattle.rules.specs.Demand.{Walk, Meets, Stops, SameWalk, All, prune}
+use Rattle.rules.specs.Demand.{All}
 
 -- ---- a script whose instructions are P, and whose gotos go by registers that are G; what stands behind a goto is not asked
 
 abbrev pub CodeGood : (Instruction → Type 0) → List Instruction → Type 0
-CodeGood P [] = Unit {0}
-CodeGood P (i ∷ c) = P (shown i) × CodeGood P c
+CodeGood P = All (λ i. P (shown i))
 
 abbrev pub Good : (Instruction → Type 0) → (ℕ → Type 0) → Stmts → Type 0
 Good P G nil = Unit {0}

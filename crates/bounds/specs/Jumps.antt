@@ -1,6 +1,6 @@
 -- Jump targets set and left aside.
 use Rattle.std.specs.Prelude.{◌≡◌, refl, Bool, true, false, cond, ℕ}
-use Rattle.std.proofs.Common.{sym, ap, ◌∙◌}
+use Rattle.std.proofs.Common.{ap}
 use Rattle.rules.specs.Instr.{Instruction, isJump, aimed, shown}
 
 cond-twice : (b : Bool) (x y z : ℕ) → cond b x (cond b y z) ≡ cond b x z

@@ -1,21 +1,13 @@
 -- How many sections lowering makes of a list and of lines, and how many strings there are. Assumes nothing.
-use Rattle.std.specs.Prelude.{◌≡◌, ◌≢◌, ◌⊎◌, Bool, false, cond, ℕ, zero, suc, pred, ◌+◌, ◌%◌, ◌≤◌, ◌<◌, length, eqb}
-use Rattle.std.proofs.Math.Path.{refl, ap, ap₂, subst}
-use Rattle.std.proofs.Common.{sym, ◌∙◌, inl, inr, le_of_suc-le-suc, not-suc-le-zero, arith, length-append, eqb-true}
+use Rattle.std.specs.Prelude.{◌≡◌, Bool, false, ℕ, suc, ◌+◌, ◌<◌, length, eqb}
+use Rattle.std.proofs.Math.Path.{refl, ap}
+use Rattle.std.proofs.Common.{arith, length-append}
 use Rattle.std.proofs.Math.Bool.{true}
-use mathlib.Core.List.{List, [], ◌∷◌, ◌++◌, map, append_assoc, append-nil}
-use Rattle.std.proofs.Math.Nat.{mod-lt}
-use Rattle.std.proofs.Math.ListN.{get_or, get_or-append}
-use Rattle.std.proofs.Math.Seq.{get_or-append-add}
+use mathlib.Core.List.{List, [], ◌∷◌, ◌++◌}
 use Rattle.std.proofs.lemmas.Bool.{eqb-false}
-use Rattle.rules.specs.Instr.{Instruction, isJump, shown, aimed}
-use Rattle.rules.specs.Machine.{SectionOrLine, unfixed, section, line, SectionCode, absent, isFixed}
-use Rattle.rules.specs.Walk.{Ask, atJump, atGoto, Halt, ask, lost, Step, to, done, End, more, over, Leg, pre, onto, run, State, Trace, follow, inside, through, enter, stepSection, walkSections, across}
-use Rattle.rules.specs.Script.{Stmts, nil, plain, goto, ite, Script, isNil}
-use Rattle.rules.specs.Assemble.{condJump, nextLine, orOne, sectionsMade, ownCode, entry, link, cond_code, inner, orEmpty, stmtSections, asStart, head_of, tailOf, lineSections, heads, tails, sectionsOf}
-use Rattle.rules.specs.ReadScript.{Out, behind, erred, gone, stop, thenOn, and_then, readOwn, readGoto, readIf, readCond, read, onward, stepLine, readScript, readIns}
-use Rattle.laws.specs.Lists.{not-both}
-use Rattle.bounds.specs.Jumps.{shown-aimed}
+use Rattle.rules.specs.Machine.{SectionCode}
+use Rattle.rules.specs.Script.{Stmts, nil, plain, goto, ite, Script}
+use Rattle.rules.specs.Assemble.{nextLine, orOne, sectionsMade, entry, link, inner, orEmpty, stmtSections, tailOf, heads}
 use Rattle.rules.specs.Lowered.{spans}
 
 pub length-orEmpty : (s : Stmts) (k : ℕ) (l : List SectionCode) → length l ≡ sectionsMade s → length (orEmpty s k l) ≡ orOne s (sectionsMade s)

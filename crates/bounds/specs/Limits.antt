@@ -1,18 +1,18 @@
 -- What a parsed expression keeps to: its nodes, its characters, and the length of each string.
-use Rattle.std.specs.Prelude.{◌≡◌, refl, Bool, true, false, not, List, [], ◌∷◌, ◌++◌, ltb, leb, eqb, get_or}
-use Rattle.std.proofs.Common.{sym, ap, ◌∙◌, mod-lt, mul-le-mul_right, arith, length-append, ltb-true, leb-true}
+use Rattle.std.specs.Prelude.{◌≡◌, refl, Bool, true, false, List, [], ◌∷◌, ltb, leb, get_or}
+use Rattle.std.proofs.Common.{mul-le-mul_right, arith, ltb-true, leb-true}
 use Rattle.std.proofs.Math.Path.{subst}
 use Rattle.std.proofs.Math.Option.{Option, none, some}
-use Prim.Native.Nat.{ℕ, zero, suc, ◌+◌, ◌*◌, ◌/◌, ◌%◌, ◌^◌, ◌-◌, ◌≤◌, ◌<◌}
+use Prim.Native.Nat.{ℕ, zero, suc, ◌+◌, ◌*◌, ◌^◌, ◌≤◌, ◌<◌}
 use Rattle.std.proofs.Math.Nat.{two-pow-succ}
 use Rattle.std.proofs.Math.ListN.{length, get_elem?}
 use Rattle.rules.specs.Bits.{Res, refused, ok, bit, spelled, field, isOne}
 use Rattle.rules.specs.Tree.{Name, Tree, Expr, Block, Tally, both, node, statement, ofExpr, ofBlock, ofLines, binop, unop, ident, number, string, goto, ite, assign, end}
 use Rattle.rules.specs.Tree as Tree
-use Rattle.rules.specs.Constants.{mostDepth, mostNodes}
-use Rattle.rules.specs.Parse.{Reader, At, succeed, refuse, ◌>>=◌, demand, bits, begin, many, block, operator, binops, unops, assignops, name_of, signed}
-use Rattle.rules.specs.Parse.{binopOf, unopOf, incdecOf, identOf, number_of, stringOf, exprKinds, gotoOf, iteOf, step_of, assignOf, stmtKinds, expr, stmt, known, name, names, fill, lineBlock, body, file, parse}
-use Rattle.bounds.specs.Parsed.{refused≢ok, Passed, passed, demanded, many-length, parsed}
+use Rattle.rules.specs.Constants.{mostNodes}
+use Rattle.rules.specs.Parse.{Reader, At, succeed, refuse, ◌>>=◌, demand, bits, begin, many, operator, binops, unops, name_of, signed}
+use Rattle.rules.specs.Parse.{binopOf, unopOf, incdecOf, identOf, number_of, stringOf, exprKinds, expr}
+use Rattle.bounds.specs.Parsed.{refused≢ok, passed, many-length}
 
 -- ---- fields
 
@@ -48,13 +48,9 @@ reads_here s a = record { nodes = omega arith; most = λ h. h; chars = omega ari
 
 -- ---- single steps
 
-abbrev unOk : {A : Type 0} → A → Res A → A
-unOk a (refused n) = a
-unOk a (ok b) = b
-
 pub succeed-is : {A : Type 0} (v : A) (s : List ℕ) (c : At) (x : A × At) → succeed v s c ≡ ok x → ◌≡◌ {A = A × At} (v, c) x
 unfolding succeed
-succeed-is v s c x e = ap (unOk x) e
+succeed-is v s c x e = cc
 
 pub record BitsRead (w : ℕ) (s : List ℕ) (a : At) (x : ℕ × At) : Type 0 where
   pub small : x.0 < 2 ^ w
@@ -76,7 +72,7 @@ bits-read w s a x e = go (leb (a.pos + w) (8 * length s)) refl e
     go false p q = absurd (refused≢ok 3 x q)
     go true p q =
         let v : ℕ × At = (spelled s w a.pos, record { pos = a.pos + w; nodes = a.nodes }) in
-        let z : v ≡ x = ap (unOk x) q in
+        let z : v ≡ x = cc in
         subst
         (BitsRead w s a)
         z
@@ -105,20 +101,11 @@ begin-reads s a x e = go (ltb a.nodes mostNodes) refl e
     go false p q = absurd (refused≢ok 8 x q)
     go true p q =
         let v : Unit {0} × At = (tt, record { pos = a.pos; nodes = suc a.nodes }) in
-        let z : v ≡ x = ap (unOk x) q in
+        let z : v ≡ x = cc in
         subst
         (λ (y : Unit {0} × At). Reads s one a y.1)
         z
         (record { nodes = omega arith; most = λ h. omega (arith, ltb-true a.nodes 2048 p); chars = omega arith; inside = λ h. h })
-
--- m, then f: what both count.
-seq-reads : {A B : Type 0} (m : Reader A) (f : A → Reader B) (s : List ℕ) (a : At) (x : B × At) (j k : Tally)
-    → ((y : A × At) → m s a ≡ ok y → Reads s j a y.1)
-    → ((v : A) (b : At) → m s a ≡ ok (v, b) → f v s b ≡ ok x → Reads s k b x.1)
-    → (m >>= f) s a ≡ ok x → Reads s (both j k) a x.1
-seq-reads m f s a x j k hm hf e =
-    let p = passed m f s a x e in
-    reads-seq s j k a p.at x.1 (hm (p.val, p.at) p.here) (hf p.val p.at p.here p.follows)
 
 pub operator-reads : {A : Type 0} (w : ℕ) (ops : List A) (s : List ℕ) (a : At) (x : A × At) → operator w ops s a ≡ ok x → Reads s Tree.emptyTally a x.1
 unfolding operator refuse

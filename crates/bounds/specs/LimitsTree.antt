@@ -1,18 +1,17 @@
 -- What a parsed tree keeps to: its nodes, its lines and names, its characters, and the length of each string.
-use Rattle.std.specs.Prelude.{◌≡◌, refl, Bool, true, false, not, List, [], ◌∷◌, ◌++◌, ltb, eqb, length, get_or}
-use Rattle.std.proofs.Common.{sym, ap, ◌∙◌, arith, length-append}
+use Rattle.std.specs.Prelude.{◌≡◌, refl, not, List, [], ◌∷◌, ◌++◌, ltb, eqb, length, get_or}
+use Rattle.std.proofs.Common.{ap, arith, length-append}
 use Rattle.std.proofs.Math.Path.{subst}
-use Rattle.std.proofs.Math.Option.{Option, none, some}
-use Prim.Native.Nat.{ℕ, zero, suc, ◌+◌, ◌*◌, ◌≤◌, ◌<◌}
-use Rattle.rules.specs.Bits.{Res, refused, ok, isOne}
+use Prim.Native.Nat.{ℕ, zero, suc, ◌+◌, ◌≤◌, ◌<◌}
+use Rattle.rules.specs.Bits.{ok, isOne}
 use Rattle.rules.specs.Tree.{Name, Tree, Expr, Block, Tally, both, node, statement, ofExpr, ofBlock, ofLines, goto, ite, assign, end}
 use Rattle.rules.specs.Tree as Tree
 use Rattle.rules.specs.Constants.{mostDepth}
 use Rattle.rules.specs.Parse.{Reader, At, succeed, refuse, ◌>>=◌, demand, bits, begin, many, block, operator, assignops, name_of}
 use Rattle.rules.specs.Parse.{gotoOf, iteOf, step_of, assignOf, stmtKinds, expr, stmt, known, name, names, fill, lineBlock, body, file, parse}
 use Rattle.rules.specs.Demand.{All}
-use Rattle.bounds.specs.Parsed.{refused≢ok, Passed, passed, demanded, many-length, Parsed, parsed, some-line}
-use Rattle.bounds.specs.Limits.{Reads, reads-seq, reads_as, reads_here, succeed-is, BitsRead, bits-read, bits-reads, demand-reads, one, begin-reads, operator-reads, name-reads, sum, many-reads, oneChar, char-reads, sum-chars, ShortExpr, ReadExpr, Sound, none_left, expr-read}
+use Rattle.bounds.specs.Parsed.{refused≢ok, passed, many-length, parsed, some-line}
+use Rattle.bounds.specs.Limits.{Reads, reads-seq, reads_here, succeed-is, bits-read, bits-reads, demand-reads, one, begin-reads, operator-reads, name-reads, sum, many-reads, oneChar, char-reads, sum-chars, ShortExpr, Sound, none_left, expr-read}
 
 abbrev pub ShortBlock : Block → Type 0
 ShortBlock end = Unit {0}

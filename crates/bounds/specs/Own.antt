@@ -1,23 +1,21 @@
 -- What lowering makes of expressions, statements and lines: every register is there, and the counts keep within the estimates.
-use Rattle.std.specs.Prelude.{◌≡◌, refl, Bool, true, false, cond, List, [], ◌∷◌, ◌++◌, ℕ, zero, suc, ◌+◌, ◌*◌, ◌≤◌, ◌<◌, length, replicate}
-use Rattle.std.proofs.Common.{sym, ap, ◌∙◌, subst, arith, length-append}
-use Rattle.std.proofs.Math.Option.{Option, none, some}
-use Rattle.std.proofs.lemmas.List.{length-replicate}
+use Rattle.std.specs.Prelude.{◌≡◌, refl, List, [], ◌∷◌, ℕ, zero, suc, ◌+◌, ◌*◌, ◌≤◌, ◌<◌, length, replicate}
+use Rattle.std.proofs.Common.{ap, arith}
+use Rattle.std.proofs.Math.Option.{none}
 use Rattle.rules.specs.Opcode as Op
 use Rattle.rules.specs.Tree.{Tree, Assignop, Expr, Block, Tally, ofExpr, ofBlock, ofLines}
 use Rattle.rules.specs.Tree.{Plain, AddTo, SubTo, MulTo, DivTo, ModTo, PowTo}
 use Rattle.rules.specs.Tree.{binop, unop, ident, number, string, assign, end}
-use Rattle.rules.specs.Instr.{Instruction, ins₂, Kind, unused, num, str, val, kinds}
+use Rattle.rules.specs.Instr.{Instruction, ins₂, str, val, kinds}
 use Rattle.rules.specs.Tables.{Counts}
 use Rattle.rules.specs.Replace.{rules, lookup}
-use Rattle.rules.specs.Script.{Stmts, nil, plain, Script, isNil}
+use Rattle.rules.specs.Script.{Stmts, nil, plain, Script}
 use Rattle.rules.specs.Assemble.{orOne, sectionsMade}
-use Rattle.rules.specs.CodegenData.{CodegenData, Lower, emit, newNum, newStr, scoped}
-use Rattle.rules.specs.Operators.{getVariable, copyValreg, makeTruthy, numberify, makeVal, makeArithBinop, applyBinop, applyUnop, codegenIncdec}
+use Rattle.rules.specs.CodegenData.{CodegenData, Lower, newNum, newStr, scoped}
+use Rattle.rules.specs.Operators.{getVariable, copyValreg, makeArithBinop, codegenIncdec}
 use Rattle.rules.specs.Annotate.{codegenFromExpr, store, assignBy, codegenFromAssign, condition, lineNumber, annotateStmts, annotateLines, fresh, annotate}
-use Rattle.rules.specs.Lowered.{texts}
 use Rattle.rules.specs.Demand.{All}
-use Rattle.bounds.specs.Room.{adds, Ok, ok₂, Room, code-grows, roomOf, NameBelow, Fine, Cost, cost, plus, Went, seq, Most, within, room, went-here, went-emit, went-num, went-str}
+use Rattle.bounds.specs.Room.{Ok, ok₂, Room, code-grows, roomOf, NameBelow, Fine, Cost, cost, plus, Went, seq, within, room, went-here, went-emit, went-num, went-str}
 use Rattle.bounds.specs.Steps.{MadeVal, MadeNum, value_made, copy-made, copy-new, truthy-made, numberify-made, valueify-made, numbered-made, arith-made, binary-made, unary-made, incdec-made, last}
 
 -- ---- expressions

@@ -1,11 +1,11 @@
 -- What a parsed tree has: at least one line.
-use Rattle.std.specs.Prelude.{◌≡◌, refl, Bool, true, false, List, [], ◌∷◌, ◌++◌, ℕ, zero, suc, ◌+◌, ◌≤◌, ◌<◌, ltb, leb, eqb, length}
-use Rattle.std.proofs.Common.{sym, ap, ◌∙◌, subst, arith, ltb-true, leb-true}
+use Rattle.std.specs.Prelude.{◌≡◌, refl, Bool, true, false, List, [], ◌∷◌, ℕ, zero, suc, ◌≤◌, ◌<◌, ltb, leb, eqb, length}
+use Rattle.std.proofs.Common.{sym, ap, ◌∙◌, arith, ltb-true, leb-true}
 use Rattle.rules.specs.Refusal as Refusal
 use Rattle.rules.specs.Bits.{Res, refused, ok}
-use Rattle.rules.specs.Tree.{Name, Tree, Block}
+use Rattle.rules.specs.Tree.{Tree}
 use Rattle.rules.specs.Constants.{mostBytes}
-use Rattle.rules.specs.Parse.{Reader, At, succeed, refuse, ◌>>=◌, demand, bits, many, names, lineBlock, fill, body, file, parse}
+use Rattle.rules.specs.Parse.{Reader, At, succeed, ◌>>=◌, demand, bits, many, names, lineBlock, fill, body, file, parse}
 
 -- ---- a step that is passed, and what follows it
 

@@ -1,8 +1,8 @@
 -- Replacement adds no register to a tree's code, and what it leaves names registers that are there.
-use Rattle.std.specs.Prelude.{◌≡◌, refl, Bool, true, false, cond, List, [], ◌∷◌, ◌++◌, ℕ, zero, suc, ◌+◌, ◌≤◌, ◌<◌, eqb, length}
-use Rattle.std.proofs.Common.{sym, ap, ◌∙◌, subst, arith, leb-true, eqb-true}
+use Rattle.std.specs.Prelude.{◌≡◌, refl, Bool, true, false, List, [], ◌∷◌, ℕ, zero, suc, ◌≤◌, ◌<◌, eqb}
+use Rattle.std.proofs.Common.{sym, ◌∙◌, subst, arith, leb-true, eqb-true}
 use Rattle.std.proofs.Math.Option.{Option, none, some}
-use Rattle.rules.specs.Instr.{Instruction, ins₁, isJump, shown, Kind, unused, num, str, val, place, kinds}
+use Rattle.rules.specs.Instr.{Instruction, ins₁, isJump, shown, Kind, unused, kinds}
 use Rattle.rules.specs.Tables.{Counts}
 use Rattle.rules.specs.Script.{Stmts, nil, plain, goto, ite, Script}
 use Rattle.rules.specs.Assemble.{condJump}
@@ -11,7 +11,7 @@ use Rattle.rules.specs.Reading.{repAll, repFirst, repRest, firsts, rests, repScr
 use Rattle.rules.specs.Demand.{All, FieldsBelow, RegistersBelow}
 use Rattle.bounds.specs.Good.{CodeGood, Good, GoodTree, GoodWhole}
 use Rattle.bounds.specs.Jumps.{aimed-other}
-use Rattle.laws.specs.Lists.{not-both}
+use Rattle.laws.specs.Lists.{not-both, all-append}
 use Rattle.bounds.specs.Room.{adds, Ok}
 use Rattle.bounds.specs.Own.{Whole}
 
@@ -98,10 +98,6 @@ module _ (u : Counts) (p : ℕ) where
   by-good (result z) e σ i k h = absurd (not-both true refl e)
   by-good blank e σ i k h = absurd (not-both true refl e)
 
-  code-append : (a b : List Instruction) → CodeGood P a → CodeGood P b → CodeGood P (a ++ b)
-  code-append [] b x y = y
-  code-append (i ∷ a) b x y = (x.0, code-append a b x.1 y)
-
   code-quiet : (c : List Instruction) → All (Ok u) c → (σ : Regs) → (replaceCode p σ c).1 ≡ σ
   code-quiet [] h σ = refl
   code-quiet (i ∷ c) h σ = code-quiet c h.1 (replaceIns p σ i).1 ∙ by-quiet (ruleOf i) h.0.quiet σ i
@@ -110,7 +106,7 @@ module _ (u : Counts) (p : ℕ) where
   code-good [] h σ = tt
   code-good (i ∷ c) h σ =
       let x = replaceIns p σ i in
-      code-append x.0 (replaceCode p x.1 c).0 (by-good (ruleOf i) h.0.quiet σ i (keeps (eqb i.fst i.snd) i.op) h.0.regs) (code-good c h.1 x.1)
+      all-append (λ i. P (shown i)) x.0 (replaceCode p x.1 c).0 (by-good (ruleOf i) h.0.quiet σ i (keeps (eqb i.fst i.snd) i.op) h.0.regs) (code-good c h.1 x.1)
 
   -- ---- lists
 

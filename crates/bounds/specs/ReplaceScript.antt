@@ -1,13 +1,13 @@
 -- Replacement over the sections is replacement over the script: to lower and then replace is to replace and then lower.
 use Rattle.std.specs.Prelude.{◌≡◌, refl, Bool, true, false, cond, ℕ, zero, suc, ◌+◌, ◌≤◌, eqb, leb}
-use Rattle.std.proofs.Common.{sym, ap₂, ◌∙◌, subst, arith, leb-true}
+use Rattle.std.proofs.Common.{sym, ap₂, ◌∙◌, arith, leb-true}
 use Rattle.std.proofs.Math.Path.{ap}
-use mathlib.Core.List.{List, [], ◌∷◌, ◌++◌, map, map-append, append_assoc, append-nil}
+use mathlib.Core.List.{List, [], ◌∷◌, ◌++◌, map, map-append, append_assoc}
 use Rattle.std.proofs.Math.ListN.{length}
 use Rattle.rules.specs.Instr.{Instruction, isJump, aimed, ins₁}
-use Rattle.rules.specs.Machine.{SectionOrLine, unfixed, section, line, SectionCode, absent}
+use Rattle.rules.specs.Machine.{SectionOrLine, section, line, SectionCode, absent}
 use Rattle.rules.specs.Script.{Stmts, nil, plain, goto, ite, Script, isNil}
-use Rattle.rules.specs.Assemble.{nextLine, orOne, sectionsMade, ownCode, entry, link, condJump, cond_code, inner, orEmpty, stmtSections, head_of, tailOf, lineSections, heads, tails, sectionsOf}
+use Rattle.rules.specs.Assemble.{nextLine, orOne, sectionsMade, ownCode, entry, link, condJump, cond_code, inner, orEmpty, stmtSections, head_of, tailOf, heads, tails, sectionsOf}
 use Rattle.rules.specs.Replace.{Rule, stays, goes, turns, number, result, blank, rules, lookup, ruleFor, ruleOf, Regs, replaceBy, replaceIns, replaceCode, with_code, replaceSections}
 use Rattle.rules.specs.Reading.{repAll, repFirst, repRest, firsts, rests, repScript}
 use Rattle.rules.specs.Demand.{All}

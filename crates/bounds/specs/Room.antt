@@ -1,7 +1,7 @@
 -- Lowering's small steps: the registers that an instruction names are there, none is a duplicate that replacement adds a register for,
 -- and each step costs so much.
-use Rattle.std.specs.Prelude.{◌≡◌, refl, Bool, true, false, List, [], ◌∷◌, ◌++◌, ℕ, zero, suc, ◌+◌, ◌*◌, ◌≤◌, ◌<◌, ℤ, eqb, length, set, get_or}
-use Rattle.std.proofs.Common.{sym, ap, ◌∙◌, subst, arith, length-append, length-set, ne_eqb}
+use Rattle.std.specs.Prelude.{◌≡◌, refl, Bool, true, false, List, [], ◌∷◌, ◌++◌, ℕ, suc, ◌+◌, ◌≤◌, ◌<◌, ℤ, eqb, length}
+use Rattle.std.proofs.Common.{sym, ap, subst, arith, length-append, length-set, ne_eqb}
 use Rattle.std.proofs.Math.Option.{Option, none, some}
 use Rattle.rules.specs.Instr.{Instruction, ins₁, ins₂, ins₃, Kind, unused, num, str, val, place, kinds}
 use Rattle.rules.specs.Tables.{Counts}
@@ -9,6 +9,7 @@ use Rattle.rules.specs.Replace.{Rule, stays, goes, turns, number, result, blank,
 use Rattle.rules.specs.CodegenData.{CodegenData, emit, newNum, newStr, newVal, bindName}
 use Rattle.rules.specs.Lowered.{texts}
 use Rattle.rules.specs.Demand.{All, FieldBelow, FieldsBelow, RegistersBelow}
+use Rattle.laws.specs.Lists.{all-append, all-set}
 
 -- ---- instructions
 
@@ -161,15 +162,6 @@ room w = record { numbers = w.numbers_up; strings = omega arith; values = w.valu
 
 -- ---- one change each
 
-all_append : {A : Type 0} (P : A → Type 0) (a b : List A) → All P a → All P b → All P (a ++ b)
-all_append P [] b p q = q
-all_append P (i ∷ a) b p q = (p.0, all_append P a b p.1 q)
-
-all_set : {A : Type 0} (P : A → Type 0) (l : List A) (n : ℕ) (a : A) → P a → All P l → All P (set l n a)
-all_set P [] n a p q = q
-all_set P (x ∷ l) zero a p q = (p, q.1)
-all_set P (x ∷ l) (suc n) a p q = (q.0, all_set P l n a p q.1)
-
 -- What a change makes, number by number, is what it costs.
 grew : {c : Cost} {g h : CodegenData} → length h.numbers ≡ length g.numbers + c.n → length h.instrs ≡ length g.instrs + c.k → h.values ≡ g.values + c.v
     → length h.strings ≡ length g.strings + c.s → length (texts h.strings) ≡ length (texts g.strings) + c.p → length h.names ≡ length g.names → Fine h → Went c g h
@@ -192,7 +184,7 @@ went-here g f = grew (omega arith) (omega arith) (omega arith) (omega arith) (om
 pub went-emit : (g : CodegenData) (i : Instruction) → Fine g → Ok (roomOf g) i → Went (cost 0 1 0 0 0) g (emit i g).1
 went-emit g i f o =
     grew (omega arith) (omega (arith, length-append g.instrs (i ∷ []))) (omega arith) (omega arith) (omega arith) refl
-    (record { instrs = all_append (Ok (roomOf g)) g.instrs (i ∷ []) f.instrs (o, tt); names = f.names })
+    (record { instrs = all-append (Ok (roomOf g)) g.instrs (i ∷ []) f.instrs (o, tt); names = f.names })
 
 pub went-num : (g : CodegenData) (z : ℤ) → Fine g → Went (cost 1 0 0 0 0) g (newNum z g).1
 went-num g z f =
@@ -211,7 +203,7 @@ went-bind g x f =
     let h = (bindName x g).1 in
     let n = names-grow g.values h.values (omega arith) g.names f.names in
     grew (omega arith) (omega arith) (omega arith) (omega arith) (omega arith) (length-set g.names x (some g.values))
-    (record { instrs = code-grows (roomOf g) (roomOf h) (record { numbers = omega arith; strings = omega arith; values = omega arith }) g.instrs f.instrs; names = all_set (NameBelow (suc g.values)) g.names x (some g.values) (omega arith) n })
+    (record { instrs = code-grows (roomOf g) (roomOf h) (record { numbers = omega arith; strings = omega arith; values = omega arith }) g.instrs f.instrs; names = all-set (NameBelow (suc g.values)) g.names x (some g.values) (omega arith) n })
 
 pub length-texts : (ts : List (List ℕ)) (t : List ℕ) → length (texts (ts ++ (t ∷ []))) ≡ length (texts ts) + length t
 unfolding texts

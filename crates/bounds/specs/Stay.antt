@@ -1,34 +1,27 @@
 -- Of every tree: replacement adds no register, its instructions name registers that are there, and its lowered sections are those of its script.
-use Rattle.std.specs.Prelude.{◌≡◌, get_or}
-use Rattle.std.proofs.Math.Path.{refl, ap}
-use Rattle.std.proofs.Common.{sym, ◌∙◌, subst, arith}
-use mathlib.Core.List.{List, [], ◌∷◌, map}
-use Prim.Native.Nat.{ℕ, suc, ◌+◌, ◌≤◌, ◌<◌}
+use Rattle.std.specs.Prelude.{◌≡◌}
+use Rattle.std.proofs.Math.Path.{ap}
+use Rattle.std.proofs.Common.{◌∙◌}
+use mathlib.Core.List.{List}
+use Prim.Native.Nat.{ℕ, ◌<◌}
 use Rattle.std.proofs.Math.ListN.{length}
-use Rattle.rules.specs.Instr.{Instruction}
-use Rattle.rules.specs.Tree.{Tree, ofLines}
-use Rattle.rules.specs.Machine.{SectionOrLine, unfixed, section, line, SectionCode, absent, Machine}
-use Rattle.rules.specs.Tables.{Counts, countsOf}
+use Rattle.rules.specs.Tree.{Tree}
+use Rattle.rules.specs.Machine.{SectionCode}
+use Rattle.rules.specs.Tables.{Counts}
 use Rattle.rules.specs.Script.{Script}
 use Rattle.rules.specs.CodegenData.{CodegenData}
 use Rattle.rules.specs.Annotate.{annotate}
 use Rattle.rules.specs.Assemble.{sectionsOf}
-use Rattle.rules.specs.Replace.{Regs, replaceSections, replaced}
-use Rattle.rules.specs.Reading.{repScript, script, reading}
-use Rattle.rules.specs.Clean.{cleanSections, cleaned}
-use Rattle.rules.specs.Combine.{combineSections, combined}
-use Rattle.rules.specs.Lowered.{Options, spans, texts, assemble, lowered, finished}
-use Rattle.rules.specs.Walk.{walk, enters, entered}
-use Rattle.rules.specs.Demand.{All, Demand, RegistersBelow, GotoBelow}
-use Rattle.bounds.specs.Good.{SectGood, NextGood, CodeGood, GoodWhole}
+use Rattle.rules.specs.Replace.{Regs, replaceSections}
+use Rattle.rules.specs.Reading.{script}
+use Rattle.rules.specs.Lowered.{Options, spans, texts, assemble, lowered}
+use Rattle.rules.specs.Demand.{All, RegistersBelow}
+use Rattle.bounds.specs.Good.{GoodWhole}
 use Rattle.bounds.specs.ReplaceScript.{lower-rep, length-rep}
-use Rattle.bounds.specs.Room.{Room, roomOf, Went}
-use Rattle.bounds.specs.Own.{Whole, whole-grows, MadeAll, annotate-made}
-use Rattle.bounds.specs.Quiet.{script-quiet, script-good, tree-good}
-use Rattle.rules.specs.Bits.{Res, ok}
+use Rattle.bounds.specs.Room.{Room, roomOf}
+use Rattle.bounds.specs.Own.{Whole, whole-grows, annotate-made}
+use Rattle.bounds.specs.Quiet.{script-quiet, script-good}
 use Rattle.laws.specs.Lists.{all-map}
-use Rattle.rules.specs.Parse.{parse}
-use Rattle.bounds.specs.Parsed.{some-line}
 
 module _ (o : Options) (t : Tree) where
   abbrev pub ss : Script

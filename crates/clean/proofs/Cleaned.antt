@@ -2,7 +2,7 @@
 use mathlib.Core.Path.{◌≡◌, refl, sym, ap, ◌∙◌}
 use mathlib.Core.Bool.{Bool, true, false, cond}
 use mathlib.Core.List.{List, [], ◌∷◌, ◌++◌, map}
-use Prim.Native.Nat.{ℕ, zero, suc, ◌+◌, ◌<◌, ◌≤◌}
+use Prim.Native.Nat.{ℕ, ◌+◌, ◌<◌, ◌≤◌}
 use native.Mathlib.Omega.{arith}
 use lib.ListN.{length, take, drop, length-map, length-drop}
 use lib.Seq.{length-take-le}
@@ -11,9 +11,10 @@ use Rattle.rules.specs.Constants.{mark}
 use Rattle.rules.specs.Word.{wordRun, runWord, wordIns, insWord}
 use Rattle.rules.specs.Tables.{readSections, sectionRun, runWords, allCode, runOf}
 use Rattle.rules.specs.Clean.{renIns, ren, keep}
+use Rattle.laws.specs.Sections.{words-cons, code-cons}
+use Rattle.std.proofs.lemmas.List.{map-append, take-map, drop-map}
 use Rattle.tables.specs.Runs.{fixed_word, count_of, total, sectionOf}
-use Rattle.tables.proofs.Read.{read-cons, words-cons, word-is, count-is, code-cons}
-use Rattle.tables.proofs.InPlace.{map-append}
+use Rattle.tables.proofs.Read.{read-cons, word-is, count-is}
 use Rattle.clean.specs.Pass.{withFirst, withTarget, withJump, bump, numbered, packedWord, packed, moved}
 use Rattle.clean.proofs.Fields.{both-start, both-run-count, both-count, both-success, both-fixed}
 use Rattle.clean.proofs.Numbers.{bump-le}
@@ -21,16 +22,6 @@ use Rattle.clean.proofs.Numbers.{bump-le}
 keep-cons : (w : ℕ) (ws is : List ℕ) → keep (readSections (w ∷ ws) is) ≡ cond (fixed_word w) (sectionOf w is ∷ keep (readSections ws (drop (count_of w) is))) (keep (readSections ws (drop (count_of w) is)))
 unfolding fixed_word
 keep-cons w ws is = rw read-cons
-
-map-take : {A B : Type 0} (g : A → B) (n : ℕ) (xs : List A) → take n (map g xs) ≡ map g (take n xs)
-map-take g zero xs = refl
-map-take g (suc n) [] = refl
-map-take g (suc n) (x ∷ xs) = ap (λ (l : List _). g x ∷ l) (map-take g n xs)
-
-map-drop : {A B : Type 0} (g : A → B) (n : ℕ) (xs : List A) → drop n (map g xs) ≡ map g (drop n xs)
-map-drop g zero xs = refl
-map-drop g (suc n) [] = refl
-map-drop g (suc n) (x ∷ xs) = map-drop g n xs
 
 fewer : (w : ℕ) (ws is : List ℕ) → count_of w + total ws ≤ length is → total ws ≤ length (drop (count_of w) is)
 fewer w ws is l = simp length-drop (omega arith)
@@ -67,10 +58,10 @@ module _ (f : ℕ → ℕ) (fb : (t : ℕ) → f t < mark) where
     move_step : (b : Bool) → fixed_word w ≡ b → moved (map (withTarget f) (numbered (bump j w) ws)) (map (withJump f) (drop (count_of w) is)) ≡ map insWord (allCode (map (ren f) (keep (readSections ws (drop (count_of w) is))))) →
         moved (map (withTarget f) (numbered j (w ∷ ws))) (map (withJump f) is) ≡ map insWord (allCode (map (ren f) (keep (readSections (w ∷ ws) is))))
     unfolding moved numbered
-    move_step false e ih = rw (both-fixed f fb (bump j w) w h, keep-cons w ws is, e, both-count f fb (bump j w) w h, map-drop (withJump f) (count_of w) is) ih
+    move_step false e ih = rw (both-fixed f fb (bump j w) w h, keep-cons w ws is, e, both-count f fb (bump j w) w h, drop-map (withJump f) (count_of w) is) ih
     move_step true e ih =
-        rw (both-fixed f fb (bump j w) w h, keep-cons w ws is, e, both-count f fb (bump j w) w h, map-drop (withJump f) (count_of w) is, ih, code-cons, map-append, sec-code w is)
-        (ap (λ (x : List ℕ). x ++ map insWord (allCode (map (ren f) (keep (readSections ws (drop (count_of w) is)))))) (map-take (withJump f) (count_of w) is))
+        rw (both-fixed f fb (bump j w) w h, keep-cons w ws is, e, both-count f fb (bump j w) w h, drop-map (withJump f) (count_of w) is, ih, code-cons, map-append, sec-code w is)
+        (ap (λ (x : List ℕ). x ++ map insWord (allCode (map (ren f) (keep (readSections ws (drop (count_of w) is)))))) (take-map (withJump f) (count_of w) is))
 
   pub packs : (ws is : List ℕ) (j : ℕ) → j + length ws ≤ 65535 → total ws ≤ length is → (k : ℕ) → packed k (map (withTarget f) (numbered j ws)) ≡ runWords k (map (ren f) (keep (readSections ws is)))
   unfolding packed numbered readSections runWords total

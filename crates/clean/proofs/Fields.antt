@@ -1,10 +1,8 @@
 -- A section's word taken apart again after its number was put in and its successor renumbered. Assumes nothing.
-use mathlib.Core.Path.{◌≡◌, refl, sym, ap, ◌∙◌}
-use mathlib.Core.Bool.{Bool, true, false}
+use mathlib.Core.Path.{◌≡◌, refl, ap, ◌∙◌}
 use Prim.Native.Nat.{ℕ, ◌<◌}
 use native.Mathlib.Omega.{arith}
-use lib.Dec.{eqb}
-use borrow.Author.Tests.{ne_eqb, eqb-true}
+use borrow.Author.Tests.{ne_eqb}
 use Rattle.rules.specs.Bits.{isOne}
 use Rattle.rules.specs.Constants.{mark}
 use Rattle.rules.specs.Word.{Run, wordRun}
@@ -13,19 +11,9 @@ use Rattle.rules.specs.Tables.{successOf, kind_of, target_of}
 use Rattle.rules.specs.Clean.{renNext}
 use Rattle.laws.specs.Words.{run-back, run_small}
 use Rattle.words.specs.Runs as Runs
-use Rattle.laws.specs.SectionWord.{kind-lt}
+use Rattle.laws.specs.SectionWord.{kind-lt, target-again}
 use Rattle.tables.specs.Runs.{fixed_word, count_of}
 use Rattle.clean.specs.Pass.{first_of, withFirst, withTarget}
-
--- the target of a word's successor is the word's
-target-of : (r : Run) → target_of (successOf r) ≡ r.target
-unfolding successOf target_of isOne
-target-of r = go (eqb r.kind 1) (eqb r.target mark) refl refl
-  where
-    go : (a b : Bool) → eqb r.kind 1 ≡ a → eqb r.target mark ≡ b → target_of (successOf r) ≡ r.target
-    go true b e d = rw (e, successOf)
-    go false true e d = rw (e, d, successOf) (sym (eqb-true _ _ d))
-    go false false e d = rw (e, d, successOf)
 
 pub first_run : (k w : ℕ) → k < 65536 → wordRun (withFirst k w) ≡ Runs.withFirst k (wordRun w)
 unfolding withFirst
@@ -57,7 +45,7 @@ module _ (f : ℕ → ℕ) (fb : (t : ℕ) → f t < mark) where
   unfolding withTarget
   target_run w =
       let s = run_small w in
-      let t : target_of (successOf (wordRun w)) < 65536 = rw (target-of (wordRun w)) s.1.1.0 in
+      let t : target_of (successOf (wordRun w)) < 65536 = rw (target-again (wordRun w)) s.1.1.0 in
       run-back (turned w) (s.0, (kind-lt _, (small_by (successOf (wordRun w)) t, (s.1.1.1.0, (s.1.1.1.1.0, tt)))))
 
   target-success : (w : ℕ) → successOf (wordRun (withTarget f w)) ≡ renNext f (successOf (wordRun w))

@@ -17,9 +17,11 @@ use Rattle.rules.specs.Machine.{SectionCode, isFixed, absent}
 use Rattle.rules.specs.Tables.{successOf, readSections, allb}
 use Rattle.rules.specs.Clean.{keep, rank}
 use Rattle.rules.specs.Operations.{fixedHere, jumpFixed, jumpsFixed}
+use Rattle.std.proofs.lemmas.List.{map-append, nil_from_length}
+use Rattle.laws.specs.Sections.{keep-length}
 use Rattle.tables.specs.Runs.{fixed_word, count_of, total, sectionOf}
-use Rattle.tables.proofs.Read.{read-nil, read-cons, read_length, all_nil, all_cons}
-use Rattle.tables.proofs.InPlace.{map-append, set-taken, set-left, set_rest}
+use Rattle.tables.proofs.Read.{read-nil, read-cons, read_length, all_nil, all_cons, fixed-is}
+use Rattle.tables.proofs.InPlace.{set-taken, set-left, set_rest}
 use Rattle.clean.specs.Pass.{first_of, withFirst, bump, bumps, numbered, newNumber, jumpIn}
 use Rattle.clean.proofs.Fields.{first-is}
 
@@ -95,26 +97,14 @@ ranks_by ws is rest h t false e =
 pub ranks : (ws is rest : List ℕ) → length ws ≤ 65535 → (t : ℕ) → newNumber (map first_of (numbered 0 ws ++ rest)) (length ws) (bumps 0 ws) t ≡ rank (readSections ws is) t
 ranks ws is rest h t = ranks_by ws is rest h t _ refl
 
-keep-short : (ss : List SectionCode) → length (keep ss) ≤ length ss
-keep-short [] = omega arith
-keep-short (s ∷ ss) = by (isFixed s.success) (keep-short ss)
-  where
-    by : (b : Bool) → length (keep ss) ≤ length ss → length (cond b (s ∷ keep ss) (keep ss)) ≤ suc (length ss)
-    by true h = omega arith
-    by false h = omega arith
-
 pub rank-small : (ss : List SectionCode) → length ss ≤ 65535 → (t : ℕ) → rank ss t < mark
-rank-small ss h t = less (length (keep (take (suc t) ss))) (let k = keep-short (take (suc t) ss) in let m = length-take (suc t) ss in omega arith)
+rank-small ss h t = less (length (keep (take (suc t) ss))) (let k = keep-length (take (suc t) ss) in let m = length-take (suc t) ss in omega arith)
   where
     less : (m : ℕ) → m ≤ 65535 → pred m < mark
     less zero l = omega arith
     less (suc m) l = omega arith
 
 -- ---- what is refused
-
-fixed-is : (w : ℕ) (is : List ℕ) → fixedHere (sectionOf w is) ≡ fixed_word w
-unfolding fixedHere fixed_word
-fixed-is w is = refl
 
 pub lines_are : (n : ℕ) (ws is : List ℕ) → allb fixedHere (take n (readSections ws is)) ≡ allb fixed_word (take n ws)
 lines_are zero ws is = rw (all_nil, all_nil)
@@ -134,17 +124,13 @@ all_map : {A B : Type 0} (p : B → Bool) (g : A → B) (xs : List A) → allb p
 all_map p g [] = rw (all_nil, all_nil)
 all_map {A} p g (x ∷ xs) = rw (all_cons p (g x) (map g xs) _ refl, all_cons (λ (y : A). p (g y)) x xs _ refl, all_map p g xs)
 
-no_words : (is : List ℕ) → 0 ≡ length is → is ≡ []
-no_words [] h = refl
-no_words (i ∷ is) h = absurd (omega arith)
-
 code_is : (ss : List SectionCode) (w : ℕ) (is : List ℕ) → jumpsFixed ss (sectionOf w is) ≡ allb (λ (w : ℕ). jumpFixed ss (wordIns w)) (take (count_of w) is)
 unfolding jumpsFixed count_of
 code_is ss w is = all_map (jumpFixed ss) wordIns (take (wordRun w).count is)
 
 pub jumps-are : (ss : List SectionCode) (ws is : List ℕ) → total ws ≡ length is → allb (jumpsFixed ss) (readSections ws is) ≡ allb (λ (w : ℕ). jumpFixed ss (wordIns w)) is
 unfolding total
-jumps-are ss [] is h = rw (read-nil, no_words is h, all_nil, all_nil)
+jumps-are ss [] is h = rw (read-nil, nil_from_length is (sym h), all_nil, all_nil)
 jumps-are ss (w ∷ ws) is h =
     rw (read-cons, all_cons (jumpsFixed ss) (sectionOf w is) (readSections ws (drop (count_of w) is)) _ refl, jumps-are ss ws (drop (count_of w) is) (simp length-drop (omega arith)))
     (ap (λ (b : Bool). cond b (allb (λ (w : ℕ). jumpFixed ss (wordIns w)) (drop (count_of w) is)) false) (code_is ss w is)

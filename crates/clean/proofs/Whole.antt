@@ -9,8 +9,9 @@ use Rattle.rules.specs.Constants.{mark}
 use Rattle.rules.specs.Word.{insWord}
 use Rattle.rules.specs.Tables.{runWords, allCode}
 use Rattle.rules.specs.Clean.{rank, cleanSections}
+use Rattle.laws.specs.Sections.{words-length}
 use Rattle.tables.specs.Runs.{total, held}
-use Rattle.tables.proofs.Read.{read_length, words-length}
+use Rattle.tables.proofs.Read.{read_length}
 use Rattle.tables.proofs.Change.{put_is, put_same}
 use Rattle.clean.specs.Pass.{first_of, withTarget, withJump, bump, bumps, numbered, newNumber, packed, moved, Numbered, Kept, Renumbered, Packed, Cleaned}
 use Rattle.clean.proofs.Fields.{both-count}

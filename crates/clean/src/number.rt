@@ -1,6 +1,6 @@
 // The new numbers of sections: while cleaning runs, the first-instruction field of each section's word carries the number of sections kept
 // up to and including it. Asks that the counted words lie inside the table and that there are at most 65,535.
-ghost use Rattle.std.specs.Prelude.{◌≡◌, ◌++◌, map, ◌≤◌, ◌<◌, ◌+◌, pred, length, take, drop};
+ghost use Rattle.std.specs.Prelude.{◌≡◌, map, ◌≤◌, ◌<◌, ◌+◌, pred, length};
 ghost use Rattle.clean.specs.Pass.{bump, newNumber, first_of, Numbered};
 
 use tables::word::is_fixed;

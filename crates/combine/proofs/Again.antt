@@ -4,27 +4,25 @@ use Rattle.std.proofs.Math.Path.{sym, ap}
 use Rattle.std.proofs.Common.{ap₂, ◌∙◌, arith, length-drop, take-append-drop}
 use Rattle.std.proofs.Math.Bool.{true, false}
 use Rattle.std.proofs.Math.Option.{Option, none, some}
-use Rattle.std.proofs.lemmas.List.{map-append, length-map}
+use Rattle.std.proofs.lemmas.List.{map-append, length-map, nil_from_length}
 use Rattle.std.proofs.Math.ListN.{length}
 use Rattle.std.proofs.Math.Seq.{length-take-le}
-use borrow.Author.Tests.{eqb-true, eqb-false}
+use borrow.Author.Tests.{eqb-true}
 use Rattle.rules.specs.Bits.{isOne}
-use Rattle.rules.specs.Constants.{mark}
 use Rattle.rules.specs.Instr.{Kind, kinds}
-use Rattle.rules.specs.Word.{insWord, wordIns, insSpare, Run, runWord, wordRun, runSpare}
-use Rattle.rules.specs.Machine.{unfixed, section, line}
-use Rattle.rules.specs.Tables.{Tables, Counts, allb, insFits, fieldFits, successFits, startFits, runsFit, flag, kind_of, target_of, successOf, readSections, runWords, allCode, runOf}
+use Rattle.rules.specs.Word.{insWord, wordIns, insSpare, runWord, wordRun, runSpare}
+use Rattle.rules.specs.Tables.{Tables, Counts, allb, insFits, fieldFits, successFits, startFits, runsFit, successOf, readSections, runWords, allCode, runOf}
 use Rattle.rules.specs.Demand.{All}
-use Rattle.laws.specs.Words.{InsSmall, ins-small, ins-again, run_small, run-again}
+use Rattle.laws.specs.Words.{InsSmall, ins-small, ins-again, run_small}
 use Rattle.laws.specs.Lists.{both}
 use Rattle.laws.specs.SectionWord.{next-small, word-again}
+use Rattle.laws.specs.Sections.{words-nil, words-cons, code-nil, code-cons}
 use Rattle.tables.specs.Rules.{sectionFits}
 use Rattle.tables.specs.Runs.{count_of, total, sectionOf, held}
 use Rattle.tables.proofs.Sound.{no, Sound as Keeps}
-use Rattle.tables.proofs.Read.{read-nil, read-cons, read_length, all_cons, whole-total}
+use Rattle.tables.proofs.Read.{read-nil, read-cons, read_length, all_cons, whole-total, total-nil, total-cons}
 use Rattle.join.specs.Held.{SectSmall, Sound}
-use Rattle.join.proofs.Tells.{no_words, words-cons, no_code, code-cons}
-use Rattle.combine.proofs.Counted.{total-nil, total-cons, one_code}
+use Rattle.combine.proofs.Counted.{one_code}
 
 -- each word of a list has 64 bits
 abbrev pub Wide : List ℕ → Type 0
@@ -58,13 +56,9 @@ code-again u (w ∷ is) h e = by (insFits u w) refl (λ q. code-again u is (λ i
     by true d ih = rw (ins-again w (h 0) (ins-zero u w d), ih (sym (all_cons (insFits u) w is true d) ∙ e))
     by false d ih = absurd (no (sym (all_cons (insFits u) w is false d) ∙ e))
 
-nothing : {A : Type 0} (l : List A) → 0 ≡ length l → l ≡ []
-nothing [] h = refl
-nothing (x ∷ l) h = absurd (omega arith)
-
 -- all the code of what words hold
 code-all : (ws is : List ℕ) → total ws ≡ length is → allCode (readSections ws is) ≡ map wordIns is
-code-all [] is h = rw (read-nil, no_code, nothing is (sym total-nil ∙ h))
+code-all [] is h = rw (read-nil, code-nil, nil_from_length is (sym h ∙ total-nil))
 code-all (w ∷ ws) is h =
     let c = count_of w in
     let l : total ws ≡ length (drop c is) = omega (arith, total-cons w ws, length-drop c is) in
@@ -107,7 +101,7 @@ word-says u i k w e =
     (eqb-true _ _ p.0, eqb-true _ _ p.1)
 
 words-again : (u : Counts) (ws is : List ℕ) (i k : ℕ) → Wide ws → runsFit u i k ws ≡ true → total ws ≤ length is → runWords k (readSections ws is) ≡ ws
-words-again u [] is i k h e l = rw (read-nil, no_words)
+words-again u [] is i k h e l = rw (read-nil, words-nil)
 words-again u (w ∷ ws) is i k h e l =
     let s = runs-split u i k w ws e in
     let d = word-says u i k w s.0 in

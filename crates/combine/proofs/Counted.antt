@@ -1,14 +1,14 @@
 -- References in words are `refs` of `rules` on what the words hold: `refs-are`. Assumes nothing.
 use Rattle.std.specs.Prelude.{◌≡◌, refl, Bool, true, false, cond, List, [], ◌∷◌, ◌++◌, map, ℕ, ◌+◌, length, take, drop}
 use Rattle.std.proofs.Common.{sym, ap, ◌∙◌, arith, length-drop, take-append-drop}
-use Rattle.std.proofs.Math.Option.{Option, none, some}
+use Rattle.std.proofs.Math.Option.{none, some}
 use Rattle.rules.specs.Instr.{Instruction, isJump, getSection}
 use Rattle.rules.specs.Word.{wordRun, wordIns}
 use Rattle.rules.specs.Machine.{SectionOrLine, unfixed, section, line}
 use Rattle.rules.specs.Tables.{successOf, readSections}
 use Rattle.rules.specs.Combine.{hit, refsNext, refsIns, refsCode, refs}
 use Rattle.tables.specs.Runs.{count_of, total, sectionOf}
-use Rattle.tables.proofs.Read.{read-nil, read-cons}
+use Rattle.tables.proofs.Read.{read-nil, read-cons, total-nil, total-cons}
 use Rattle.combine.specs.Counting.{next_of, hits, refsNexts, refsJumps}
 
 next-hits : (t : ℕ) (x : SectionOrLine) → refsNext t x ≡ hits t (next_of x)
@@ -46,14 +46,6 @@ jumps-nil : (t : ℕ) (is : List ℕ) → 0 ≡ length is → refsJumps t is ≡
 unfolding refsJumps
 jumps-nil t [] h = refl
 jumps-nil t (i ∷ is) h = absurd (omega arith)
-
-pub total-nil : total [] ≡ 0
-unfolding total
-total-nil = refl
-
-pub total-cons : (w : ℕ) (ws : List ℕ) → total (w ∷ ws) ≡ count_of w + total ws
-unfolding total
-total-cons w ws = refl
 
 pub one_code : (w : ℕ) (is : List ℕ) → (sectionOf w is).instrs ≡ map wordIns (take (count_of w) is)
 unfolding count_of

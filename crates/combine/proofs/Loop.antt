@@ -10,12 +10,12 @@ use Rattle.rules.specs.Tables.{runWords, allCode}
 use Rattle.rules.specs.Operations.{put, allAhead}
 use Rattle.rules.specs.Combine.{mate, combineAt, combineFuel, combineSections}
 use Rattle.tables.specs.Runs.{held}
-use Rattle.tables.proofs.Read.{words-length}
 use Rattle.join.specs.Held.{Holds, Sound, Changed}
 use Rattle.join.proofs.Back.{holds-held, sound}
 use Rattle.join.proofs.Joins.{join-holds}
 use Rattle.joins.specs.Ahead.{Forward, forward, pair-up, low-join, forward-join}
 use Rattle.joins.specs.Pairs.{Pair, Low, to-pair, low-none, low-pair, low-more, fuel-join, fuel-none}
+use Rattle.laws.specs.Sections.{words-length}
 use Rattle.combine.specs.Combined.{Combined}
 
 -- `left` sections ss are left of the n in s and i, none below s1 may take its successor in, and combining them is combining all

@@ -2,26 +2,25 @@
 -- machine: `ready`. What the tables are afterwards: `written_over`. So a caller that has written such a machine needs no check. Assumes nothing.
 use Rattle.std.specs.Prelude.{◌≡◌, refl, Bool, true, false, ℕ, suc, ◌-◌, ◌≤◌, max, length, take, drop, replicate}
 use Rattle.std.proofs.Common.{sym, ap, ◌∙◌, arith, drop_at}
-use Rattle.std.proofs.Math.Option.{Option, none, some}
 use mathlib.Core.List.{List, [], ◌∷◌, ◌++◌, map}
 use Rattle.std.proofs.Math.Nat.{max-eq_left}
 use Rattle.std.proofs.lemmas.List.{length-map}
 use Rattle.rules.specs.Bits.{Res, refused, ok}
-use Rattle.rules.specs.Instr.{Instruction, Kind, kinds}
+use Rattle.rules.specs.Instr.{Instruction, kinds}
 use Rattle.rules.specs.Refusal as Refusal
 use Rattle.rules.specs.Word.{insWord}
-use Rattle.rules.specs.Machine.{SectionOrLine, unfixed, section, line, SectionCode, Machine}
+use Rattle.rules.specs.Machine.{SectionCode, Machine}
 use Rattle.rules.specs.Tables.{Tables, Counts, allb, runWords, allCode, countsOf}
 use Rattle.rules.specs.Operations.{put, fixedHere, allAhead, combineIn}
 use Rattle.rules.specs.Combine.{combined}
 use Rattle.rules.specs.Demand.{All}
 use Rattle.laws.specs.Words.{InsSmall}
-use Rattle.machines.specs.Fits.{Held, Counted, SectFit, NextFit, AllAt, MachineFit, ins-small, next-small}
+use Rattle.machines.specs.Fits.{Held, Counted, SectFit, AllAt, MachineFit, ins-small, next-small}
 use Rattle.tables.specs.Runs.{held}
-use Rattle.tables.proofs.Read.{words-length}
 use Rattle.join.specs.Held.{SectSmall, Holds, Sound}
 use Rattle.join.proofs.Back.{sound, holds-held}
 use Rattle.laws.specs.Lists.{all-left, all-right, all-map}
+use Rattle.laws.specs.Sections.{words-length}
 use Rattle.combine.specs.Combined.{Combined, Written}
 use Rattle.combine.proofs.Loop.{put-twice}
 

@@ -14,19 +14,15 @@ use Rattle.rules.specs.Machine.{SectionOrLine, unfixed, section, line, SectionCo
 use Rattle.rules.specs.Tables.{allb, successOf, readSections}
 use Rattle.rules.specs.Operations.{fixedHere, nextAhead, allAhead}
 use Rattle.tables.specs.Runs.{count_of, sectionOf, fixed_word}
-use Rattle.tables.proofs.Read.{read-nil, read-cons, all_nil, all_cons}
-use Rattle.laws.specs.Lists.{at-elem, at-past}
-use Rattle.combine.specs.Tests.{start_at, nextIn, wordAhead, wordsAhead}
+use Rattle.tables.proofs.Read.{read-nil, read-cons, all_nil, all_cons, fixed-is}
+use Rattle.laws.specs.Lists.{at-elem}
+use Rattle.combine.specs.Tests.{start_at, nextIn, wordsAhead}
 
 -- ---- 14
 
-one-fixed : (w : ℕ) (is : List ℕ) → fixedHere (sectionOf w is) ≡ fixed_word w
-unfolding fixedHere fixed_word
-one-fixed w is = refl
-
 pub fixed-are : (ws is : List ℕ) → allb fixedHere (readSections ws is) ≡ allb fixed_word ws
 fixed-are [] is = rw read-nil (all_nil fixedHere ∙ sym (all_nil fixed_word))
-fixed-are (w ∷ ws) is = rw (read-cons, all_cons fixedHere (sectionOf w is) (readSections ws (drop (count_of w) is)) _ (one-fixed w is), all_cons fixed_word w ws _ refl, fixed-are ws (drop (count_of w) is))
+fixed-are (w ∷ ws) is = rw (read-cons, all_cons fixedHere (sectionOf w is) (readSections ws (drop (count_of w) is)) _ (fixed-is w is), all_cons fixed_word w ws _ refl, fixed-are ws (drop (count_of w) is))
 
 -- ---- 15
 
@@ -56,9 +52,6 @@ module _ (s i : List ℕ) (n : ℕ) (h : n ≤ length s) (t : ℕ) where
     success-at =
         let e = elem_at (take n s) i t long in
         ap (λ (x : SectionCode). x.success) (at-elem (readSections (take n s) i) t absent e.0 e.1) ∙ (e.3 ∙ ap (λ (w : ℕ). successOf (wordRun w)) (get_or-take n s t 0 k))
-
-  pub past-at : n ≤ t → get_or (readSections (take n s) i) t absent ≡ absent
-  past-at k = at-past (readSections (take n s) i) t absent (elem_past (take n s) i t (omega (arith, length-take-le n s h)))
 
 module _ (s i : List ℕ) (n : ℕ) (h : n ≤ length s) where
   next-is : (k : ℕ) (x : SectionOrLine) → nextAhead (readSections (take n s) i) k x ≡ nextIn s n k x

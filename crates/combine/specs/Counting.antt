@@ -1,14 +1,11 @@
 -- References in words: counted over section words and instruction words.
-use Rattle.std.specs.Prelude.{◌≡◌, refl, Bool, true, false, cond, List, [], ◌∷◌, ◌++◌, map, ℕ, ◌+◌, length, take, drop}
-use Rattle.std.proofs.Common.{sym, ap, ◌∙◌, arith, length-drop, take-append-drop}
+use Rattle.std.specs.Prelude.{List, [], ◌∷◌, ℕ, ◌+◌}
 use Rattle.std.proofs.Math.Option.{Option, none, some}
-use Rattle.rules.specs.Instr.{Instruction, isJump, getSection}
+use Rattle.rules.specs.Instr.{getSection}
 use Rattle.rules.specs.Word.{wordRun, wordIns}
 use Rattle.rules.specs.Machine.{SectionOrLine, unfixed, section, line}
-use Rattle.rules.specs.Tables.{successOf, readSections}
-use Rattle.rules.specs.Combine.{hit, refsNext, refsIns, refsCode, refs}
-use Rattle.tables.specs.Runs.{count_of, total, sectionOf}
-use Rattle.tables.proofs.Read.{read-nil, read-cons}
+use Rattle.rules.specs.Tables.{successOf}
+use Rattle.rules.specs.Combine.{hit}
 
 -- the section that a successor is
 abbrev pub next_of : SectionOrLine → Option ℕ

@@ -1,20 +1,11 @@
 -- The test of 15 on words.
-use Rattle.std.specs.Prelude.{◌≡◌, Bool, ◌||◌, List, [], ◌∷◌, ℕ, zero, suc, ◌<◌, ◌≤◌, length, take, drop, get_or}
-use Rattle.std.proofs.Math.Path.{refl}
-use Rattle.std.proofs.Common.{sym, ap, ◌∙◌, arith}
+use Rattle.std.specs.Prelude.{Bool, ◌||◌, List, [], ◌∷◌, ℕ, suc, get_or}
 use Rattle.std.proofs.Math.Bool.{true, false, cond}
-use Rattle.std.proofs.Math.Option.{none, some}
 use Rattle.std.proofs.Math.Dec.{leb, ltb}
-use Rattle.std.proofs.Math.ListN.{get_elem?}
-use Rattle.std.proofs.Math.Seq.{get_or-take, length-take-le}
-use borrow.Author.Tests.{ltb-true, ltb-false}
 use Rattle.rules.specs.Bits.{isOne}
 use Rattle.rules.specs.Word.{wordRun}
-use Rattle.rules.specs.Machine.{SectionOrLine, unfixed, section, line, SectionCode, absent}
-use Rattle.rules.specs.Tables.{allb, successOf, readSections}
-use Rattle.rules.specs.Operations.{fixedHere, nextAhead, allAhead}
-use Rattle.tables.specs.Runs.{count_of, sectionOf, fixed_word}
-use Rattle.tables.proofs.Read.{read-nil, read-cons, all_nil, all_cons}
+use Rattle.rules.specs.Machine.{SectionOrLine, unfixed, section, line}
+use Rattle.rules.specs.Tables.{successOf}
 
 -- is section t of the first n words s a line start, or not there?
 unfoldable pub start_at : List ℕ → ℕ → ℕ → Bool

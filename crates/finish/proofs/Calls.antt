@@ -19,10 +19,10 @@ use Rattle.rules.specs.Operations.{size_of, estimate, holds, put, write, build, 
 use Rattle.bounds.specs.Parsed.{refused≢ok}
 use Rattle.walks.specs.Theorems.{lowered-estimated}
 use Rattle.tables.specs.Runs.{held}
-use Rattle.tables.proofs.Read.{words-length}
 use Rattle.combine.proofs.Loop.{put-twice}
 use Rattle.finish.specs.Passes.{Lowered, finishSections, Finished}
 use Rattle.machines.specs.Back.{put-begins}
+use Rattle.laws.specs.Sections.{words-length}
 use Rattle.finish.proofs.Lowered.{held-is}
 
 -- counts and tables with other sections and instructions

@@ -1,5 +1,5 @@
 -- The words of sections hold them: what is written is read back. Assumes nothing.
-use Rattle.std.specs.Prelude.{◌≡◌, refl, Bool, List, [], ◌∷◌, ◌++◌, map, ℕ, ◌+◌, length, drop}
+use Rattle.std.specs.Prelude.{◌≡◌, refl, Bool, List, [], ◌∷◌, ◌++◌, map, ℕ, length, drop}
 use Rattle.std.proofs.lemmas.List.{map-append, length-map}
 use Rattle.std.proofs.Common.{arith, take_at, drop_at}
 use Rattle.rules.specs.Instr.{Instruction}
@@ -8,10 +8,11 @@ use Rattle.rules.specs.Machine.{SectionOrLine, SectionCode}
 use Rattle.rules.specs.Tables.{runWords, allCode, readSections}
 use Rattle.rules.specs.Demand.{All}
 use Rattle.laws.specs.Words.{InsSmall, ins-back}
+use Rattle.laws.specs.Sections.{code-cons}
 use Rattle.tables.specs.Runs.{count_of, sectionOf, held}
 use Rattle.tables.proofs.Read.{read-nil, read-cons}
 use Rattle.join.specs.Held.{SectSmall, Holds}
-use Rattle.join.proofs.Tells.{Tells, Tell, tell, code-cons}
+use Rattle.join.proofs.Tells.{Tells, Tell, tell}
 
 pub code-back : (c : List Instruction) → All InsSmall c → map wordIns (map insWord c) ≡ c
 code-back [] h = refl

@@ -1,5 +1,5 @@
 -- A list cut in parts by their lengths: a part, what is behind it, two parts exchanged, an element taken out. Assumes nothing.
-use Rattle.std.specs.Prelude.{◌≡◌, List, [], ◌∷◌, ◌++◌, ℕ, suc, ◌+◌, ◌-◌, length, drop}
+use Rattle.std.specs.Prelude.{◌≡◌, List, [], ◌∷◌, ◌++◌, ℕ, suc, ◌+◌, length, drop}
 use Rattle.std.proofs.Common.{sym, ◌∙◌, append_assoc, arith, length-append, take_at, drop_at}
 use Rattle.std.proofs.Math.Seq.{slice}
 use Rattle.join.specs.Parts.{exchanged}

@@ -12,7 +12,7 @@ use Rattle.std.proofs.Math.Seq.{slice, take_at, drop_at, length-slice}
 use Rattle.std.proofs.lemmas.List.{get_or_at, set_at}
 use Rattle.rules.specs.Instr.{Instruction, fall}
 use Rattle.rules.specs.Word.{runWord, wordRun, insWord}
-use Rattle.rules.specs.Machine.{section, SectionCode, absent}
+use Rattle.rules.specs.Machine.{SectionCode, absent}
 use Rattle.rules.specs.Tables.{runWords, allCode, runOf}
 use Rattle.rules.specs.Operations.{put}
 use Rattle.rules.specs.Clean.{renIns, ren}
@@ -21,12 +21,12 @@ use Rattle.rules.specs.Demand.{All}
 use Rattle.laws.specs.Lists.{all-left, all-right, all-append}
 use Rattle.laws.specs.SectionWord.{first-is, count-is}
 use Rattle.laws.specs.Words.{InsSmall}
+use Rattle.laws.specs.Sections.{words-length, words-cons, words-append, code-append}
 use Rattle.tables.specs.Runs.{count_of, total}
-use Rattle.tables.proofs.Read.{words-length}
 use Rattle.join.specs.Held.{SectSmall, Holds, Changed}
 use Rattle.join.specs.Parts.{exchanged}
 use Rattle.join.specs.Passes.{jumpFallen, mergedWord, cutOut, numbered}
-use Rattle.join.proofs.Tells.{Tell, tell, tells, tell-append, tell-total, tell-length, merged, settles, words-cons, words_append, code-append, code-longer}
+use Rattle.join.proofs.Tells.{Tell, tell, tells, tell-append, tell-total, tell-length, merged, settles, code-longer}
 use Rattle.join.proofs.Parted.{cut-two, join-parts, code_map, code-before, code-after}
 use Rattle.join.proofs.Cuts.{exchange-at, cut_at}
 use Rattle.join.proofs.Small.{code-small, small-fall, jumps-fall}
@@ -95,7 +95,7 @@ module _ (ps ms zs : List SectionCode) (a b : SectionCode) (R Q : List ℕ) (i j
   Z = runWords kz zs
 
   words_are : runWords 0 (ps ++ (a ∷ (ms ++ (b ∷ zs)))) ++ R ≡ A ++ (wa ∷ (M ++ (wb ∷ (Z ++ R))))
-  words_are = let z : 0 + ka ≡ ka = omega arith in rw (words_append 0 ps (a ∷ (ms ++ (b ∷ zs))), z, words-cons ka a (ms ++ (b ∷ zs)), words_append km ms (b ∷ zs), words-cons kb b zs) (append_assoc A (wa ∷ (M ++ (wb ∷ Z))) R ∙ ap (λ (x : List ℕ). A ++ (wa ∷ x)) (append_assoc M (wb ∷ Z) R))
+  words_are = let z : 0 + ka ≡ ka = omega arith in rw (words-append 0 ps (a ∷ (ms ++ (b ∷ zs))), z, words-cons ka a (ms ++ (b ∷ zs)), words-append km ms (b ∷ zs), words-cons kb b zs) (append_assoc A (wa ∷ (M ++ (wb ∷ Z))) R ∙ ap (λ (x : List ℕ). A ++ (wa ∷ x)) (append_assoc M (wb ∷ Z) R))
 
   len-A : length A ≡ i
   len-A = words-length 0 ps ∙ hi

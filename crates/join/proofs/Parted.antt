@@ -8,7 +8,7 @@ use Rattle.rules.specs.Machine.{SectionCode, absent}
 use Rattle.rules.specs.Tables.{allCode}
 use Rattle.rules.specs.Clean.{renIns, ren}
 use Rattle.rules.specs.Combine.{without, joined, combineAt}
-use Rattle.join.proofs.Tells.{no_code, code-cons, code-append}
+use Rattle.laws.specs.Sections.{code-nil, code-cons, code-append}
 
 -- ---- a list cut at two places
 pub cut-two : {A : Type 0} (d : A) (l : List A) (i j : ℕ) → i < j → j < length l → l ≡ take i l ++ (get_or l i d ∷ (slice (suc i) j l ++ (get_or l j d ∷ drop (suc j) l)))
@@ -53,7 +53,7 @@ module _ (ps ms zs : List SectionCode) (a b : SectionCode) (i j : ℕ) (h : leng
 -- ---- its code
 
 pub code_map : (f : ℕ → ℕ) (xs : List SectionCode) → allCode (map (ren f) xs) ≡ map (renIns f) (allCode xs)
-code_map f [] = rw no_code
+code_map f [] = rw code-nil
 code_map f (x ∷ xs) = rw (code-cons (ren f x) (map (ren f) xs), code-cons x xs, map-append, code_map f xs)
 
 module _ (ps ms zs : List SectionCode) (a b : SectionCode) where

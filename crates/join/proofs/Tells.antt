@@ -1,17 +1,17 @@
 -- Which section a section's word tells, and what the passes of a join make of words that tell sections. Assumes nothing.
-use Rattle.std.specs.Prelude.{◌≡◌, refl, Bool, List, [], ◌∷◌, ◌++◌, map, ℕ, suc, ◌+◌, ◌<◌, ◌≤◌, length}
-use Rattle.std.proofs.Common.{sym, ap, ◌∙◌, append_assoc, arith, length-append, ne_eqb}
+use Rattle.std.specs.Prelude.{◌≡◌, refl, List, [], ◌∷◌, ◌++◌, map, ℕ, suc, ◌+◌, ◌<◌, ◌≤◌, length}
+use Rattle.std.proofs.Common.{sym, ap, ◌∙◌, arith, length-append}
 use Rattle.std.proofs.lemmas.List.{length-map}
 use Rattle.rules.specs.Bits.{isOne}
-use Rattle.rules.specs.Constants.{mark}
 use Rattle.rules.specs.Instr.{fall}
 use Rattle.rules.specs.Word.{runWord, wordRun}
-use Rattle.rules.specs.Machine.{SectionOrLine, unfixed, section, line, SectionCode}
-use Rattle.rules.specs.Tables.{kind_of, target_of, successOf, runWords, allCode, runOf}
+use Rattle.rules.specs.Machine.{SectionCode}
+use Rattle.rules.specs.Tables.{successOf, runWords, allCode, runOf}
 use Rattle.rules.specs.Clean.{renNext, ren}
 use Rattle.rules.specs.Combine.{joined}
 use Rattle.rules.specs.Demand.{All}
 use Rattle.laws.specs.SectionWord.{NextSmall, start-is, next-is, count-is}
+use Rattle.laws.specs.Sections.{words-nil, words-cons, code-nil, code-cons}
 use Rattle.join.specs.Held.{SectSmall}
 use Rattle.tables.specs.Runs.{count_of, total}
 use Rattle.join.specs.Passes.{mergedWord, word_at, numbered}
@@ -36,35 +36,9 @@ tell-append (u ∷ us) vs (x ∷ xs) ys p q = (p.0, tell-append us vs xs ys p.1 
 
 -- ---- the words of sections
 
-pub no_words : (k : ℕ) → runWords k [] ≡ []
-unfolding runWords
-no_words k = refl
-
-pub words-cons : (k : ℕ) (s : SectionCode) (ss : List SectionCode) → runWords k (s ∷ ss) ≡ runWord (runOf s.lineStart s.success k (length s.instrs)) ∷ runWords (k + length s.instrs) ss
-unfolding runWords
-words-cons k s ss = refl
-
-pub no_code : allCode [] ≡ []
-unfolding allCode
-no_code = refl
-
-pub code-cons : (s : SectionCode) (ss : List SectionCode) → allCode (s ∷ ss) ≡ s.instrs ++ allCode ss
-unfolding allCode
-code-cons s ss = refl
-
-pub code-append : (xs ys : List SectionCode) → allCode (xs ++ ys) ≡ allCode xs ++ allCode ys
-code-append [] ys = rw no_code
-code-append (x ∷ xs) ys = rw (code-cons x (xs ++ ys), code-cons x xs, code-append xs ys, append_assoc)
-
 -- how long a section's code and that behind it is
 pub code-longer : (s : SectionCode) (ss : List SectionCode) → length (allCode (s ∷ ss)) ≡ length s.instrs + length (allCode ss)
 code-longer s ss = ap length (code-cons s ss) ∙ length-append s.instrs (allCode ss)
-
-pub words_append : (k : ℕ) (xs ys : List SectionCode) → runWords k (xs ++ ys) ≡ runWords k xs ++ runWords (k + length (allCode xs)) ys
-words_append k [] ys = let z : k + 0 ≡ k = omega arith in rw (no_words, no_code, z)
-words_append k (x ∷ xs) ys =
-    let z : k + length x.instrs + length (allCode xs) ≡ k + length (allCode (x ∷ xs)) = omega (arith, code-longer x xs) in
-    rw (words-cons k x (xs ++ ys), words-cons k x xs, words_append (k + length x.instrs) xs ys, z)
 
 -- the word of a section tells it
 pub tells : (s : SectionCode) (k : ℕ) → SectSmall s → k + length s.instrs ≤ 65535 → Tells (runWord (runOf s.lineStart s.success k (length s.instrs))) s
@@ -78,7 +52,7 @@ tells s k h l =
     }
 
 pub tell : (ss : List SectionCode) (k : ℕ) → All SectSmall ss → k + length (allCode ss) ≤ 65535 → Tell (runWords k ss) ss
-tell [] k h l = rw no_words tt
+tell [] k h l = rw words-nil tt
 tell (s ∷ ss) k h l =
     let z = code-longer s ss in
     rw words-cons (tells s k h.0 (omega arith), tell ss (k + length s.instrs) h.1 (omega arith))
@@ -118,7 +92,7 @@ tells-count w s t = t.count
 
 -- words numbered anew are the words of their sections, whose targets fall
 pub settles : (j k : ℕ) (ws : List ℕ) (ss : List SectionCode) → Tell ws ss → numbered j k ws ≡ runWords k (map (ren (fall j)) ss)
-settles j k [] [] t = rw (no-numbers, no_words)
+settles j k [] [] t = rw (no-numbers, words-nil)
 settles j k [] (s ∷ ss) t = absurd t
 settles j k (w ∷ ws) [] t = absurd t
 settles j k (w ∷ ws) (s ∷ ss) t =
@@ -127,7 +101,7 @@ settles j k (w ∷ ws) (s ∷ ss) t =
 
 pub tell-total : (ws : List ℕ) (ss : List SectionCode) → Tell ws ss → total ws ≡ length (allCode ss)
 unfolding total
-tell-total [] [] t = rw no_code
+tell-total [] [] t = rw code-nil
 tell-total [] (s ∷ ss) t = absurd t
 tell-total (w ∷ ws) [] t = absurd t
 tell-total (w ∷ ws) (s ∷ ss) t = rw (tells-count w s t.0, tell-total ws ss t.1) (sym (code-longer s ss))

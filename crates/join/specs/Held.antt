@@ -1,7 +1,7 @@
 -- Words that hold sections. `holds-held` (Reads) says that these are the sections read from the words.
-use Rattle.std.specs.Prelude.{◌≡◌, List, ◌++◌, map, ℕ, ◌≤◌, ◌<◌, length, take, drop}
+use Rattle.std.specs.Prelude.{◌≡◌, List, ◌++◌, map, ℕ, ◌≤◌, length, take, drop}
 use Rattle.rules.specs.Word.{insWord}
-use Rattle.rules.specs.Machine.{SectionOrLine, unfixed, section, line, SectionCode}
+use Rattle.rules.specs.Machine.{SectionCode}
 use Rattle.rules.specs.Tables.{runWords, allCode}
 use Rattle.rules.specs.Operations.{put}
 use Rattle.rules.specs.Demand.{All}

@@ -1,11 +1,11 @@
 -- Successors ahead: where no successor that is no line start lies below its section, no join changes that, and none lets a section before S1 take
 -- its successor in. So the search for the lowest pair may go on where it stands. What 15 does not refuse is such a machine.
-use Rattle.std.specs.Prelude.{◌≡◌, refl, Bool, true, false, cond, ◌||◌, List, [], ◌∷◌, ℕ, zero, suc, ◌+◌, ◌≤◌, ◌<◌, leb, eqb, length, get_or}
-use Rattle.std.proofs.Common.{sym, ap, ◌∙◌, arith, eqb-true, le_of_suc-le-suc}
+use Rattle.std.specs.Prelude.{◌≡◌, refl, Bool, true, false, ◌||◌, List, [], ◌∷◌, ℕ, zero, suc, ◌+◌, ◌≤◌, ◌<◌, leb, length, get_or}
+use Rattle.std.proofs.Common.{sym, ap, ◌∙◌, arith}
 use Rattle.std.proofs.lemmas.Bool.{false≢true}
 use Rattle.std.proofs.Math.Option.{Option, none, some}
 use Rattle.std.proofs.Math.ListN.{get_elem?}
-use Rattle.std.proofs.Math.Seq.{get_or-set_same, get_or-set_other}
+use Rattle.std.proofs.Math.Seq.{get_or-set_other}
 use borrow.Author.Tests.{leb-true}
 use Rattle.rules.specs.Instr.{fall}
 use Rattle.rules.specs.Machine.{SectionOrLine, unfixed, section, line, SectionCode, absent}
@@ -15,7 +15,7 @@ use Rattle.rules.specs.Operations.{nextAhead, allAhead}
 use Rattle.laws.specs.Lists.{at-elem, at-past}
 use Rattle.joins.specs.Numbers.{fall-low, fall-grows, rises}
 use Rattle.joins.specs.Pairs.{Pair, Low}
-use Rattle.joins.specs.Joins.{Joint, Taken, Stands, joint, other, stands, first-in, second-in, at-join, start-join, next-not, mate-join}
+use Rattle.joins.specs.Joins.{Joint, Taken, Stands, joint, other, stands, second-in, at-join, start-join, next-not, mate-join}
 
 -- no successor that is no line start lies below its section
 abbrev pub Forward : List SectionCode → Type 0

@@ -1,6 +1,6 @@
 -- Joins until no pair is left: what each join keeps, combining keeps, and it ends. `Ready` is what every join of a machine with L lines keeps:
 -- all sections are fixed, and the first L start lines.
-use Rattle.std.specs.Prelude.{◌≡◌, refl, List, [], ◌∷◌, map, ℕ, zero, suc, ◌+◌, ◌≤◌, ◌<◌, length, get_or, set}
+use Rattle.std.specs.Prelude.{◌≡◌, refl, List, [], ◌∷◌, map, ℕ, zero, suc, ◌≤◌, ◌<◌, length, get_or, set}
 use Rattle.std.proofs.Common.{sym, ap, ◌∙◌, ◌⊎◌, inl, inr, le_of_suc-le-suc, not-suc-le-zero, arith}
 use Rattle.std.proofs.lemmas.Bool.{false≢true}
 use Rattle.std.proofs.Math.Bool.{true}
@@ -11,7 +11,7 @@ use Rattle.rules.specs.Clean.{renNext, ren}
 use Rattle.rules.specs.Combine.{without, pair, combineAt, combineFuel, combineSections}
 use Rattle.joins.specs.Numbers.{lt-or-le, fall-low}
 use Rattle.joins.specs.Pairs.{Pair, pair-found}
-use Rattle.joins.specs.Joins.{Joint, Taken, first-in, second-in, start-join, length-join}
+use Rattle.joins.specs.Joins.{Joint, Taken, second-in, start-join, length-join}
 
 -- ---- all sections fixed
 

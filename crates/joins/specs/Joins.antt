@@ -1,16 +1,16 @@
 -- One join of a pair: what stands where afterwards, how often another section is referred to, what it may take in. Assumes nothing but a pair.
-use Rattle.std.specs.Prelude.{◌≡◌, refl, Bool, true, false, cond, List, [], ◌∷◌, ◌++◌, ℕ, zero, suc, ◌+◌, ◌≤◌, ◌<◌, eqb, length, get_or, set}
+use Rattle.std.specs.Prelude.{◌≡◌, refl, Bool, true, false, cond, List, ℕ, suc, ◌+◌, ◌≤◌, ◌<◌, eqb, length, get_or, set}
 use Rattle.std.proofs.Common.{sym, ap, ◌∙◌, ◌⊎◌, inl, inr, arith, eqb-true}
 use Rattle.std.proofs.lemmas.Bool.{eqb-false, false≢true}
 use Rattle.std.proofs.lemmas.List.{length-map}
 use Rattle.std.proofs.Math.ListN.{length-set, get_or-map, get_or-eq_default}
 use Rattle.std.proofs.Math.Option.{none, some}
 use Rattle.std.proofs.Math.Seq.{get_or-set_same, get_or-set_other}
-use Rattle.rules.specs.Instr.{Instruction, fall}
+use Rattle.rules.specs.Instr.{fall}
 use Rattle.rules.specs.Machine.{SectionOrLine, unfixed, section, line, SectionCode, absent}
 use Rattle.rules.specs.Clean.{renNext, ren}
 use Rattle.rules.specs.Combine.{refsNext, refsCode, refs, mayTake, mate, without, joined, combineAt}
-use Rattle.joins.specs.Numbers.{lt-or-le, fall-low, fall-eqb, Rises, rises, without-fall, length-without}
+use Rattle.joins.specs.Numbers.{lt-or-le, fall-eqb, rises, without-fall, length-without}
 use Rattle.joins.specs.References.{refsOf, hit-self, hit-other, no-hit, refs-one, refs-two, refs-append, refs-set, refs-without, refs-fall}
 use Rattle.joins.specs.Pairs.{Pair}
 

@@ -1,9 +1,10 @@
 -- Laws of lists and of tests: what holds of all elements, of a list and one behind it, by number. Assumes nothing.
-use Rattle.std.specs.Prelude.{◌≡◌, refl, Bool, true, false, ◌&&◌, List, [], ◌∷◌, ◌++◌, map, ℕ, zero, suc, ◌<◌, length, get_or}
+use Rattle.std.specs.Prelude.{◌≡◌, refl, Bool, true, false, ◌&&◌, List, [], ◌∷◌, ◌++◌, ℕ, zero, suc, ◌<◌, length, get_or, set}
 use Rattle.std.proofs.Common.{sym, ◌∙◌, le_of_suc-le-suc, not-suc-le-zero, arith}
 use Rattle.std.proofs.lemmas.Bool.{false≢true}
 use Rattle.std.proofs.Math.ListN.{get_elem?}
 use Rattle.std.proofs.Math.Option.{none, some}
+use Rattle.rules.specs.Tables.{allb}
 use Rattle.rules.specs.Demand.{All}
 
 -- two tests that both are passed
@@ -36,10 +37,21 @@ module _ {A : Type 0} (P : A → Type 0) where
   all-at d (x ∷ l) h zero p = h.0
   all-at d (x ∷ l) h (suc t) p = all-at d l h.1 t (le_of_suc-le-suc p)
 
+  pub all-set : (l : List A) (n : ℕ) (a : A) → P a → All P l → All P (set l n a)
+  all-set [] n a p q = q
+  all-set (x ∷ l) zero a p q = (p, q.1)
+  all-set (x ∷ l) (suc n) a p q = (q.0, all-set l n a p q.1)
+
 -- what holds of each element where another thing holds of it
 pub all-map : {A : Type 0} (P Q : A → Type 0) → ((a : A) → P a → Q a) → (l : List A) → All P l → All Q l
 all-map P Q h [] p = tt
 all-map P Q h (a ∷ l) p = (h a p.0, all-map P Q h l p.1)
+
+-- a test that each element passes, all pass
+pub all-true : {A : Type 0} (p : A → Bool) (l : List A) → All (λ a. p a ≡ true) l → allb p l ≡ true
+unfolding allb
+all-true p [] h = refl
+all-true p (x ∷ l) h = rw (h.0, allb) (all-true p l h.1)
 
 -- ---- by number
 

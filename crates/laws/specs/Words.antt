@@ -4,7 +4,7 @@ use Rattle.std.specs.Prelude.{◌≡◌, List, [], ◌∷◌, ℕ, ◌^◌, ◌<
 use Rattle.rules.specs.Constants.{instrLayout, sectionLayout, stringLayout}
 use Rattle.rules.specs.Instr.{Instruction}
 use Rattle.rules.specs.Word.{unpack, insWord, wordIns, insSpare, Run, runWord, wordRun, runSpare, Span, spanWord, wordSpan, spanSpare}
-use Rattle.laws.specs.Pack.{Small, pack-lt, unpack-pack, fields, fields-small, small-take, pack-unpack}
+use Rattle.laws.specs.Pack.{Small, unpack-pack, fields, fields-small, small-take, pack-unpack}
 
 -- ---- an instruction: opcode below 64, fields below 65,536
 
@@ -27,10 +27,6 @@ module _ (i : Instruction) (h : InsSmall i) where
   pub ins-zeros : insSpare (insWord i) ≡ 0
   unfolding insSpare
   ins-zeros = ins-field 4
-
-  pub ins-lt : insWord i < 2 ^ 64
-  unfolding insWord
-  ins-lt = pack-lt instrLayout (insFields i) h
 
 -- what is read is small, and written again it is the word
 pub ins-small : (w : ℕ) → InsSmall (wordIns w)
@@ -63,10 +59,6 @@ module _ (r : Run) (h : RunSmall r) where
   unfolding runSpare
   run-zeros = run-field 5
 
-  pub run-lt : runWord r < 2 ^ 64
-  unfolding runWord
-  run-lt = pack-lt sectionLayout (runFields r) h
-
 -- what is read is small, and written again it is the word
 pub run_small : (w : ℕ) → RunSmall (wordRun w)
 unfolding wordRun
@@ -93,19 +85,6 @@ module _ (s : Span) (h : SpanSmall s) where
   pub span-back : wordSpan (spanWord s) ≡ s
   unfolding wordSpan
   span-back = rw (span-field 0, span-field 1)
-
-  pub span-zeros : spanSpare (spanWord s) ≡ 0
-  unfolding spanSpare
-  span-zeros = span-field 2
-
-  pub span-lt : spanWord s < 2 ^ 32
-  unfolding spanWord
-  span-lt = pack-lt stringLayout (spanFields s) h
-
--- what is read is small, and written again it is the word
-pub span_small : (w : ℕ) → SpanSmall (wordSpan w)
-unfolding wordSpan
-span_small w = small-take stringLayout (fields stringLayout w) 2 (fields-small stringLayout w)
 
 pub span-again : (w : ℕ) → w < 2 ^ 32 → spanSpare w ≡ 0 → spanWord (wordSpan w) ≡ w
 unfolding spanWord wordSpan spanSpare

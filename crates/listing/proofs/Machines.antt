@@ -1,49 +1,33 @@
 -- The listing of the machine that words hold, table by table. Assumes nothing.
-use mathlib.Core.Path.{◌≡◌, refl, sym, ◌∙◌, subst}
-use mathlib.Core.Bool.{Bool, true, false, ◌&&◌}
+use mathlib.Core.Path.{◌≡◌, sym, ◌∙◌, subst}
+use mathlib.Core.Bool.{true}
 use mathlib.Core.List.{List, [], ◌∷◌, map, append-nil}
-use Prim.Native.Nat.{ℕ, zero, suc, ◌+◌, ◌≤◌, ◌<◌}
+use Prim.Native.Nat.{ℕ, ◌+◌, ◌≤◌}
 use native.Mathlib.Omega.{arith}
 use lib.Dec.{eqb}
-use lib.ListN.{length, take, get_or, length-map}
+use lib.ListN.{length, take, length-map}
 use lib.Seq.{length-take-le, get_or-take}
 use borrow.Author.Tests.{leb-true}
 use Rattle.rules.specs.Bits.{ok}
 use Rattle.rules.specs.Word.{wordSpan, spanSpare}
 use Rattle.rules.specs.Machine.{Machine}
-use Rattle.rules.specs.Tables.{Tables, Counts, allb, spanFits, fits, decode}
+use Rattle.rules.specs.Tables.{Tables, Counts, spanFits, fits, decode}
 use Rattle.rules.specs.Listing.{rowsN, rowsT, rowsV, rowsS, listing}
+use Rattle.laws.specs.Lists.{both}
+use Rattle.laws.specs.Table.{all-at}
+use Rattle.tables.proofs.Texts.{at_some}
 use Rattle.tables.specs.Runs.{total, held}
-use Rattle.tables.proofs.Sound.{no, Sound, sound}
-use Rattle.tables.proofs.Read.{all_cons, read_length, whole-total}
+use Rattle.tables.proofs.Sound.{Sound, sound}
+use Rattle.tables.proofs.Read.{read_length, whole-total}
 use Rattle.tables.proofs.Change.{machine_of}
 use Rattle.text.specs.Wrote.{Room, Wrote, Prints}
 use Rattle.listing.specs.Rows.{countsRow, Inside}
 use Rattle.listing.specs.Listed.{Lists, Listed}
 use Rattle.text.proofs.Writes.{Left, begin, from_start}
 
--- ---- a rule of all words, at one of them
-
-all-at : (p : ℕ → Bool) (l : List ℕ) (i : ℕ) → allb p l ≡ true → i < length l → p (get_or l i 0) ≡ true
-all-at p [] i e h = absurd (omega arith)
-all-at p (x ∷ l) zero e h = by (p x) refl
-  where
-    by : (b : Bool) → p x ≡ b → p x ≡ true
-    by true q = q
-    by false q = absurd (no (sym (all_cons p x l false q) ∙ e))
-all-at p (x ∷ l) (suc i) e h = by (p x) refl (λ d. all-at p l i d (omega arith))
-  where
-    by : (b : Bool) → p x ≡ b → (allb p l ≡ true → p (get_or l i 0) ≡ true) → p (get_or l i 0) ≡ true
-    by true q ih = ih (sym (all_cons p x l true q) ∙ e)
-    by false q ih = absurd (no (sym (all_cons p x l false q) ∙ e))
-
 span-inside : (u : Counts) (w : ℕ) → spanFits u w ≡ true → (wordSpan w).start + (wordSpan w).size ≤ u.pool
 unfolding spanFits
-span-inside u w e = leb-true _ _ (second (eqb (spanSpare w) 0) _ e)
-  where
-    second : (a b : Bool) → a && b ≡ true → b ≡ true
-    second true b e = e
-    second false b e = absurd (no e)
+span-inside u w e = leb-true _ _ (both (eqb (spanSpare w) 0) _ e).1
 
 module _ (t : Tables) (u : Counts) (h : fits t u ≡ true) where
   decode_is : decode t u ≡ ok (machine_of t u)
@@ -62,7 +46,7 @@ module _ {t : Tables} {u : Counts} {o : List ℕ} (l : Lists t u o) where
       let s = keeps in
       let n = length-take-le u.pool t.pool s.counts.pool in
       let k = length-take-le u.strings t.strings s.counts.strings in
-      let a = span-inside u _ (all-at (spanFits u) (take u.strings t.strings) i s.spans (omega arith)) in
+      let a = span-inside u _ (all-at (spanFits u) (take u.strings t.strings) i _ s.spans (at_some (take u.strings t.strings) i (omega arith))) in
       let e = get_or-take u.strings t.strings i 0 h in
       rw n (subst (λ (w : ℕ). (wordSpan w).start + (wordSpan w).size ≤ u.pool) e a)
 

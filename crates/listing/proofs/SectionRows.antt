@@ -12,13 +12,9 @@ use Rattle.rules.specs.Tables.{readSections}
 use Rattle.rules.specs.Listing.{rowsI, rowsS}
 use Rattle.tables.specs.Runs.{count_of, total, sectionOf, held}
 use Rattle.tables.proofs.InPlace.{drop-take}
-use Rattle.tables.proofs.Read.{read-nil, read-cons, count-is}
+use Rattle.tables.proofs.Read.{read-nil, read-cons, count-is, total-cons}
 use Rattle.listing.specs.Rows.{sectionRow}
 use Rattle.text.proofs.Writes.{Are}
-
-total-cons : (w : ℕ) (ws : List ℕ) → total (w ∷ ws) ≡ count_of w + total ws
-unfolding total
-total-cons w ws = refl
 
 pub sections-all : (ss is : List ℕ) (n e : ℕ) → Are (rowsS 0 (readSections (slice 0 n ss) (slice 0 e is)) ∷ []) (rowsS 0 (held ss is n e))
 unfolding held

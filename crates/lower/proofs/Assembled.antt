@@ -23,13 +23,14 @@ use Rattle.machines.specs.Lowered.{lower-starts}
 use Rattle.machines.specs.FinishedCode.{lower-good}
 use Rattle.bounds.specs.Stay.{numbers_stay, strings-stay}
 use Rattle.bounds.specs.Lengths.{length-spans}
-use Rattle.bounds.specs.Estimate.{sections-length, replaced-length}
+use Rattle.bounds.specs.Estimate.{sections-length}
 use Rattle.bounds.specs.Bounds.{small}
 use Rattle.machines.specs.Targets.{Aims, lower-aims}
 use Rattle.machines.specs.Shape.{lower-later}
 use Rattle.machines.specs.Texts.{annotate-short, spans_fit, names-fit}
 use Rattle.machines.specs.Fits.{Counted, MachineFit}
 use Rattle.machines.specs.Held.{SectsFit, machine-fit}
+use Rattle.laws.specs.Sections.{replaced-length}
 
 -- ---- every statement's instructions name registers that are there, jumps' targets aside
 

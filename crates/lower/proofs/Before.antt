@@ -24,15 +24,17 @@ use Rattle.words.specs.declared.instr.Replaced.{Replaced}
 use Rattle.words.specs.declared.instr.Replaced.TheVariants.{Stays, Goes, Turns, Number, Blank}
 use Rattle.tables.specs.Runs.{held}
 use Rattle.tables.proofs.Read.{whole-total}
-use Rattle.tables.proofs.Sound.{both, Counted, sound}
+use Rattle.tables.proofs.Sound.{Counted, sound}
 use Rattle.tables.proofs.Change.{machine_of, change-ok}
 use Rattle.replace.specs.Pass.{numbersBy, stringsBy, number_of, stringOf, sums, AddsAll, Plain, Ready}
 use Rattle.replace.proofs.Adding.{sums-nil, sums-cons}
 use Rattle.replace.proofs.Replaces.{replace-11}
 use Rattle.bounds.specs.Stay.{numbers_stay, strings-stay}
-use Rattle.machines.specs.Fits.{MachineFit, InTables, runs-length, tables-fit}
+use Rattle.machines.specs.Fits.{MachineFit, InTables, tables-fit}
 use Rattle.bounds.specs.Parsed.{refused≢ok}
 use Rattle.machines.specs.Back.{tables-back}
+use Rattle.laws.specs.Sections.{words-length}
+use Rattle.laws.specs.Lists.{both}
 use Rattle.program.specs.Program.{over, Laid}
 use Rattle.lower.proofs.Assembled.{assembled-fit}
 
@@ -45,7 +47,7 @@ laid_in : (m : Machine) (l l' : Tables) (u : Counts) → Laid m l l' u → InTab
 unfolding encode
 laid_in m l l' u h =
     record {
-      sections = ap (take (length m.sections)) h.sections ∙ begins (runWords 0 m.sections) l.sections (length m.sections) (runs-length 0 m.sections);
+      sections = ap (take (length m.sections)) h.sections ∙ begins (runWords 0 m.sections) l.sections (length m.sections) (words-length 0 m.sections);
       instrs = ap (take (length (allCode m.sections))) h.instrs ∙ begins (map insWord (allCode m.sections)) l.instrs (length (allCode m.sections)) (length-map (allCode m.sections) insWord);
       numbers = ap (take (length m.numbers)) h.numbers ∙ begins m.numbers l.numbers (length m.numbers) refl;
       strings = ap (take (length m.strings)) h.strings ∙ begins (map spanWord m.strings) l.strings (length m.strings) (length-map m.strings spanWord);

@@ -19,8 +19,8 @@ use Rattle.rules.specs.Operations.{put, write, size_of, estimate, holds, build, 
 use Rattle.replace.specs.Pass.{Rewrote}
 use Rattle.replace.proofs.Replaces.{replaced-counts, replaced-words}
 use Rattle.bounds.specs.Stay.{numbers_stay}
-use Rattle.bounds.specs.Estimate.{code-length, replaced-length, replaced-len, WithinEstimate, estimated}
-use Rattle.machines.specs.Fits.{runs-length}
+use Rattle.bounds.specs.Estimate.{code-length, replaced-len, WithinEstimate, estimated}
+use Rattle.laws.specs.Sections.{words-length, replaced-length}
 use Rattle.program.specs.Program.{Laid}
 use Rattle.lower.proofs.Words.{stays, then-zeros}
 use Rattle.lower.proofs.Before.{holds-lowered, counted, same_numbers, same-strings}
@@ -38,7 +38,7 @@ record Long (t : Tables) (u : Counts) : Type 0 where
 
 long : (m : Machine) → Long (encode m) (countsOf m)
 unfolding encode countsOf
-long m = record { sections = runs-length 0 m.sections; instrs = length-map (allCode m.sections) insWord; numbers = refl; strings = length-map m.strings spanWord; pool = refl; names = refl }
+long m = record { sections = words-length 0 m.sections; instrs = length-map (allCode m.sections) insWord; numbers = refl; strings = length-map m.strings spanWord; pool = refl; names = refl }
 
 -- replacement leaves no more instructions,
 fewer : (m : Machine) → (countsOf (replaced m)).instrs ≤ (countsOf m).instrs

@@ -23,8 +23,8 @@ use Rattle.bounds.specs.Parsed.{parsed}
 use Rattle.bounds.specs.LimitsTree.{limits}
 use Rattle.bounds.specs.Estimate.{estimated}
 use Rattle.bounds.specs.Bounds.{small, few-lines}
+use Rattle.laws.specs.Lists.{both}
 use Rattle.nodes.proofs.Width.{four}
-use Rattle.tables.proofs.Sound.{both}
 use Rattle.replace.specs.Pass.{Ready, Rewrote}
 use Rattle.nodes.specs.Builds.{mostNodesOf}
 use Rattle.tree.specs.Files.{HoldsTree, Placed, Treed, TreeAt, TreeRead, sized, widths}

@@ -1,32 +1,20 @@
 -- A lowered machine passes cleaning's test (13 never occurs), a cleaned one combining's first (14).
-use Rattle.std.specs.Prelude.{◌≡◌, refl, ◌⊎◌, Bool, true, false, cond, not, ◌&&◌, ◌||◌, ℕ, zero, suc, pred, ◌+◌, ◌≤◌, ◌<◌, min, leb, get_or, take}
-use Rattle.std.proofs.Common.{sym, ap, ap₂, ◌∙◌, inl, inr, le_of_suc-le-suc, not-suc-le-zero, arith, length-append, length-take, get_or-take, le-leb}
+use Rattle.std.specs.Prelude.{◌≡◌, refl, Bool, true, false, cond, ◌&&◌, ℕ, suc, ◌+◌, ◌<◌, get_or, take}
+use Rattle.std.proofs.Common.{sym, ap, ap₂, ◌∙◌, arith, length-take, get_or-take}
 use Rattle.std.proofs.Math.Path.{subst}
-use Rattle.std.proofs.Math.Option.{Option, none, some}
-use mathlib.Core.List.{List, [], ◌∷◌, ◌++◌, map}
-use Rattle.std.proofs.Math.ListN.{length, get_elem?}
-use Rattle.rules.specs.Instr.{Instruction, isJump, aimed}
-use Rattle.rules.specs.Machine.{SectionOrLine, unfixed, section, line, SectionCode, absent, isFixed, Machine}
+use mathlib.Core.List.{List, [], ◌∷◌, ◌++◌}
+use Rattle.std.proofs.Math.ListN.{length}
+use Rattle.rules.specs.Instr.{Instruction, isJump}
+use Rattle.rules.specs.Machine.{SectionCode, absent, isFixed}
 use Rattle.rules.specs.Script.{Stmts, nil, plain, goto, ite, Script}
-use Rattle.rules.specs.Assemble.{nextLine, orOne, sectionsMade, ownCode, entry, link, condJump, cond_code, inner, orEmpty, stmtSections, head_of, tailOf, lineSections, heads, tails, sectionsOf}
-use Rattle.rules.specs.Clean.{renNext, ren, keep, rank, cleanSections}
+use Rattle.rules.specs.Assemble.{nextLine, orOne, sectionsMade, ownCode, entry, link, cond_code, inner, orEmpty, stmtSections, head_of, tailOf, lineSections, heads, tails, sectionsOf}
 use Rattle.rules.specs.Tables.{allb}
-use Rattle.rules.specs.Operations.{fixedHere, jumpFixed, jumpsFixed, nextAhead, allAhead}
+use Rattle.rules.specs.Operations.{fixedHere, jumpFixed, jumpsFixed}
 use Rattle.rules.specs.Demand.{All}
-use Rattle.bounds.specs.Lengths.{length-low, length-orEmpty, nextLine-lt, heads-length, length-tailOf}
-use Rattle.machines.specs.Lowered.{SameAs, Stands, fits-cast, fits-left, fits-right, base, line-fits, at_head, fits-tail, lower-fixed}
-use Rattle.joins.specs.Along.{Fixed, Ready}
-use Rattle.machines.specs.Fits.{AllAt}
-use Rattle.machines.specs.Shape.{all_of}
-
-pub all_true : {A : Type 0} (p : A → Bool) (l : List A) → All (λ a. p a ≡ true) l → allb p l ≡ true
-unfolding allb
-all_true p [] h = refl
-all_true p (x ∷ l) h = ap (λ (b : Bool). elim b as (λ z. Bool) [ false ↦ false | true ↦ allb p l ]) h.0 ∙ all_true p l h.1
-
-all_append : {A : Type 0} (P : A → Type 0) (a b : List A) → All P a → All P b → All P (a ++ b)
-all_append P [] b p q = q
-all_append P (i ∷ a) b p q = (p.0, all_append P a b p.1 q)
+use Rattle.bounds.specs.Lengths.{length-low, length-orEmpty, nextLine-lt}
+use Rattle.machines.specs.Lowered.{Stands, fits-cast, fits-left, fits-right, base, line-fits, at_head, fits-tail, lower-fixed}
+use Rattle.joins.specs.Along.{Fixed}
+use Rattle.laws.specs.Lists.{all-append, all-true, all-of}
 
 -- ---- 14: no section is unfixed
 
@@ -83,7 +71,7 @@ module _ (m : List SectionCode) (e : ℕ) (he : FixedAt m e) where
       let fBC : Stands m nf nf (B ++ C) = fits-cast m (suc n + length A) nf (B ++ C) (omega arith) (fits-right m (suc n) A (B ++ C) f.1) in
       let fB : Stands m nf nf B = fits-left m nf B C fBC in
       let fC : Stands m nj nj C = fits-cast m (nf + length B) nj C (omega arith) (fits-right m nf B C fBC) in
-      (all_append (JumpFixed m) (ownCode e o) (cond_code t c (suc n)) (own_fixed o) (cond-fixed t c (suc n) nj fA), all_append J A (B ++ C) (part-jumps t ht (suc n) nj fA) (all_append J B C (part-jumps u hu nf nj fB) (tt, hs b (suc nj) (suc nj) k fC.1)))
+      (all-append (JumpFixed m) (ownCode e o) (cond_code t c (suc n)) (own_fixed o) (cond-fixed t c (suc n) nj fA), all-append J A (B ++ C) (part-jumps t ht (suc n) nj fA) (all-append J B C (part-jumps u hu nf nj fB) (tt, hs b (suc nj) (suc nj) k fC.1)))
 
   low-jumps : (s : Stmts) → LowJumps s
   low-jumps nil = λ b p n k f. tt
@@ -113,7 +101,7 @@ module _ (m : List SectionCode) (L : ℕ) where
   unfolding base
   tails-jumps i n [] h = tt
   tails-jumps i n (s ∷ t) h =
-      all_append (JumpsFixed m)
+      all-append (JumpsFixed m)
       (tailOf (lineSections L i n s))
       (tails L (suc i) (n + sectionsMade s) t)
       (tail-jumps (lineSections L i n s) (subst (λ (k : ℕ). Line k n s) (omega arith) (h 0 (omega arith))))
@@ -134,7 +122,7 @@ module _ (t : Script) (pos : 0 < length t) where
       let L = length t in
       let m = sectionsOf t in
       let lines : (u : ℕ) → u < length t → Line m L (0 + u) (base L t u) (get_or t u nil) = λ u p. subst (λ (k : ℕ). Line m L k (base L t u) (get_or t u nil)) (omega arith) (line-jumps u p) in
-      all_append (JumpsFixed m) (heads L 0 L t) (tails L 0 L t) (heads-jumps m L 0 L t lines) (tails-jumps m L 0 L t lines)
+      all-append (JumpsFixed m) (heads L 0 L t) (tails L 0 L t) (heads-jumps m L 0 L t lines) (tails-jumps m L 0 L t lines)
 
 -- As tests.
 jump-test : (m : List SectionCode) (i : Instruction) → JumpFixed m i → jumpFixed m i ≡ true
@@ -152,7 +140,7 @@ code-test m (i ∷ c) h = (jump-test m i h.0, code-test m c h.1)
 pub sects-test : (m l : List SectionCode) → All (JumpsFixed m) l → All (λ s. jumpsFixed m s ≡ true) l
 unfolding jumpsFixed
 sects-test m [] h = tt
-sects-test m (s ∷ l) h = (all_true (jumpFixed m) s.instrs (code-test m s.instrs h.0), sects-test m l h.1)
+sects-test m (s ∷ l) h = (all-true (jumpFixed m) s.instrs (code-test m s.instrs h.0), sects-test m l h.1)
 
 pub clean-test : (t : Script) → 0 < length t → (allb fixedHere (take (length t) (sectionsOf t)) && allb (jumpsFixed (sectionsOf t)) (sectionsOf t)) ≡ true
 unfolding fixedHere
@@ -161,5 +149,5 @@ clean-test t pos =
     let L = length t in
     ap₂
     (λ (a b : Bool). a && b)
-    (all_true fixedHere (take L m) (all_of (λ s. fixedHere s ≡ true) absent (take L m) (λ u p. let q : u < L = omega (arith, length-take L m) in ap (λ (s : SectionCode). isFixed s.success) (get_or-take L m u absent q) ∙ lower-fixed t pos u q)))
-    (all_true (jumpsFixed m) m (sects-test m m (lower-jumps t pos)))
+    (all-true fixedHere (take L m) (all-of (λ s. fixedHere s ≡ true) absent (take L m) (λ u p. let q : u < L = omega (arith, length-take L m) in ap (λ (s : SectionCode). isFixed s.success) (get_or-take L m u absent q) ∙ lower-fixed t pos u q)))
+    (all-true (jumpsFixed m) m (sects-test m m (lower-jumps t pos)))

@@ -1,17 +1,18 @@
 -- In a cleaned machine a successor that is no line start does not lie below its section (15 never occurs).
-use Rattle.std.specs.Prelude.{◌≡◌, refl, ◌⊎◌, Bool, true, false, cond, not, ◌&&◌, ◌||◌, List, [], ◌∷◌, ◌++◌, map, ℕ, zero, suc, pred, ◌+◌, ◌≤◌, ◌<◌, leb, length, get_or, take}
-use Rattle.std.proofs.Common.{sym, ap, ap₂, ◌∙◌, subst, inl, inr, append_assoc, le_of_suc-le-suc, not-suc-le-zero, arith, length-append, le-leb}
+use Rattle.std.specs.Prelude.{◌≡◌, refl, ◌⊎◌, Bool, true, false, cond, ◌||◌, List, [], ◌∷◌, ◌++◌, map, ℕ, zero, suc, pred, ◌+◌, ◌≤◌, ◌<◌, leb, length, get_or, take}
+use Rattle.std.proofs.Common.{sym, ap, ◌∙◌, subst, inl, inr, append_assoc, le_of_suc-le-suc, not-suc-le-zero, arith, length-append, le-leb}
 use Rattle.std.proofs.Math.Option.{Option, none, some}
 use Rattle.std.proofs.Math.ListN.{get_elem?}
-use Rattle.rules.specs.Instr.{Instruction}
 use Rattle.rules.specs.Machine.{SectionOrLine, unfixed, section, line, SectionCode, absent, isFixed}
 use Rattle.rules.specs.Script.{Stmts, nil, plain, goto, ite, Script}
-use Rattle.rules.specs.Assemble.{nextLine, orOne, sectionsMade, ownCode, entry, link, cond_code, inner, orEmpty, stmtSections, head_of, tailOf, lineSections, heads, tails, sectionsOf}
+use Rattle.rules.specs.Assemble.{nextLine, orOne, sectionsMade, entry, link, inner, orEmpty, stmtSections, head_of, tailOf, lineSections, heads, tails, sectionsOf}
 use Rattle.rules.specs.Clean.{renNext, ren, keep, rank, cleanSections}
 use Rattle.rules.specs.Operations.{nextAhead, allAhead}
 use Rattle.bounds.specs.Lengths.{length-low, length-orEmpty, nextLine-lt, heads-length, length-tailOf}
-use Rattle.laws.specs.Lists.{not-both}
+use Rattle.laws.specs.Lists.{at-elem}
 use Rattle.machines.specs.Fits.{AllAt}
+use Rattle.std.proofs.Math.Nat.{pred-le-pred}
+use Rattle.std.proofs.lemmas.Bool.{or_left, or_right}
 
 -- Section p's successor is a line, or ahead.
 abbrev Ahead : ℕ → ℕ → SectionOrLine → Type 0
@@ -119,9 +120,6 @@ lower-ahead t =
 
 -- ---- ranks grow
 
-keep-cons : (s : SectionCode) (l : List SectionCode) → keep (s ∷ l) ≡ cond (isFixed s.success) (s ∷ keep l) (keep l)
-keep-cons s l = refl
-
 kept-grow : (m : List SectionCode) (v u : ℕ) → v ≤ u → length (keep (take v m)) ≤ length (keep (take u m))
 kept-grow m zero u h = omega arith
 kept-grow m (suc v) zero h = absurd (not-suc-le-zero h)
@@ -132,11 +130,8 @@ kept-grow (s ∷ m) (suc v) (suc u) h = go (isFixed s.success) (kept-grow m v u 
     go true k = omega arith
     go false k = k
 
-pred-le : (a b : ℕ) → a ≤ b → pred a ≤ pred b
-pred-le a b h = omega arith
-
 rank-grow : (m : List SectionCode) (v u : ℕ) → v ≤ u → rank m v ≤ rank m u
-rank-grow m v u h = pred-le (length (keep (take (suc v) m))) (length (keep (take (suc u) m))) (kept-grow m (suc v) (suc u) (omega arith))
+rank-grow m v u h = pred-le-pred (kept-grow m (suc v) (suc u) (omega arith))
 
 kept_at : (a : List SectionCode) (s : SectionCode) (b : List SectionCode) → isFixed s.success ≡ true → length (keep (take (suc (length a)) (a ++ (s ∷ b)))) ≡ suc (length (keep a))
 kept_at [] s b h = ap (λ (x : Bool). length (cond x (s ∷ []) [])) h
@@ -190,16 +185,6 @@ module _ (L : ℕ) (m : List SectionCode) (stmtSections : (t : ℕ) → t < L �
 
 -- ---- as a test
 
-or-true : (a b : Bool) → (a ≡ true) ⊎ (b ≡ true) → (a || b) ≡ true
-or-true true b h = refl
-or-true false b (inl h) = absurd (not-both false h refl)
-or-true false b (inr h) = h
-
-at_some : (l : List SectionCode) (t : ℕ) (s : SectionCode) → get_elem? l t ≡ some s → get_or l t absent ≡ s
-at_some [] t s e = absurd (let z : ◌≡◌ {A = ℕ} 0 1 = cc in omega arith)
-at_some (x ∷ l) zero s e = cc
-at_some (x ∷ l) (suc t) s e = at_some l t s e
-
 next-test : (ss : List SectionCode) (p : ℕ) (x : SectionOrLine) → Kept ss p x → nextAhead ss p x ≡ true
 unfolding nextAhead
 next-test ss p unfixed h = refl
@@ -207,8 +192,8 @@ next-test ss p (section u) h = go (get_elem? ss u) refl h
   where
     go : (o : Option SectionCode) → get_elem? ss u ≡ o → ((get_or ss u absent).lineStart ≡ true) ⊎ (p ≤ u) → elim o as (λ z. Bool) [ none ↦ true | some s ↦ s.lineStart || leb p u ] ≡ true
     go none e q = refl
-    go (some s) e (inl q) = or-true s.lineStart (leb p u) (inl (ap (λ (y : SectionCode). y.lineStart) (sym (at_some ss u s e)) ∙ q))
-    go (some s) e (inr q) = or-true s.lineStart (leb p u) (inr (le-leb p u q))
+    go (some s) e (inl q) = or_left s.lineStart (leb p u) (ap (λ (y : SectionCode). y.lineStart) (sym (at-elem ss u absent s e)) ∙ q)
+    go (some s) e (inr q) = or_right s.lineStart (leb p u) (le-leb p u q)
 next-test ss p (line r) h = refl
 
 pub all-test : (ss : List SectionCode) (i : ℕ) (l : List SectionCode) → AllAt (λ p s. Kept ss p s.success) i l → allAhead ss i l ≡ true

@@ -1,24 +1,24 @@
 -- A machine's words read back as the machine, and so do the tables that a call has written it to.
-use Rattle.std.specs.Prelude.{◌≡◌, refl, Bool, true, false, ◌&&◌, List, [], ◌∷◌, ◌++◌, map, ℕ, zero, suc, ◌+◌, ◌*◌, ◌-◌, ◌/◌, ◌%◌, ◌^◌, max, ◌≤◌, ◌<◌, ℤ, pos, length, take, drop, replicate}
-use Rattle.std.proofs.Common.{sym, ap, ap₂, ◌∙◌, subst, arith, length-append, take_at, drop_at}
-use Rattle.std.proofs.Math.Option.{Option, none, some}
+use Rattle.std.specs.Prelude.{◌≡◌, refl, Bool, true, false, List, [], ◌∷◌, ◌++◌, map, ℕ, suc, ◌+◌, ◌-◌, max, ◌≤◌, ℤ, pos, length, take, drop, replicate}
+use Rattle.std.proofs.Common.{sym, ap, ap₂, ◌∙◌, arith, take_at, drop_at}
 use Rattle.std.proofs.lemmas.List.{map-append, length-map}
 use Rattle.rules.specs.Refusal as Refusal
 use Rattle.rules.specs.Bits.{Res, refused, ok, isOne}
 use Rattle.rules.specs.Tree.{Tree}
 use Rattle.rules.specs.Parse.{parse}
-use Rattle.rules.specs.Instr.{Instruction, Kind, kinds}
+use Rattle.rules.specs.Instr.{Instruction, kinds}
 use Rattle.laws.specs.Lists.{all-left, all-right}
 use Rattle.laws.specs.SectionWord.{flag-back, next-back, fields-back}
 use Rattle.laws.specs.Words as Words
-use Rattle.rules.specs.Word.{insWord, wordIns, Run, runWord, wordRun, Span, spanWord, wordSpan}
+use Rattle.rules.specs.Word.{insWord, wordIns, Run, Span, spanWord, wordSpan}
 use Rattle.rules.specs.Machine.{SectionOrLine, SectionCode, Machine}
-use Rattle.rules.specs.Tables.{Tables, Counts, fits, readSections, decode, successOf, flag, kind_of, target_of, sectionRun, runWords, allCode, encode, countsOf}
+use Rattle.rules.specs.Tables.{Tables, Counts, readSections, decode, successOf, flag, sectionRun, runWords, allCode, encode, countsOf}
 use Rattle.rules.specs.Operations.{size_of, estimate, holds, put, write, build}
 use Rattle.rules.specs.Demand.{All}
 use Rattle.bounds.specs.Estimate.{codeLen, code-length}
 use Rattle.bounds.specs.Parsed.{refused≢ok}
-use Rattle.machines.specs.Fits.{Held, Counted, SectFit, SpanFit, AllAt, MachineFit, InTables, tables-fit, ins-small, next-small, runs-length}
+use Rattle.machines.specs.Fits.{Held, Counted, SectFit, SpanFit, AllAt, MachineFit, InTables, tables-fit, ins-small, next-small}
+use Rattle.laws.specs.Sections.{words-length}
 
 -- ---- instructions, sections, strings
 
@@ -114,7 +114,7 @@ written : (u : Counts) (m : Machine) (l : Tables) → InTables (write u m l) m
 unfolding write encode
 written u m l =
     record {
-      sections = put-begins 0 u.sections (length m.sections) (runWords 0 m.sections) l.sections (runs-length 0 m.sections);
+      sections = put-begins 0 u.sections (length m.sections) (runWords 0 m.sections) l.sections (words-length 0 m.sections);
       instrs = put-begins 0 u.instrs (length (allCode m.sections)) (map insWord (allCode m.sections)) l.instrs (length-map (allCode m.sections) insWord);
       numbers = put-begins (pos 0) u.numbers (length m.numbers) m.numbers l.numbers refl;
       strings = put-begins 0 u.strings (length m.strings) (map spanWord m.strings) l.strings (length-map m.strings spanWord);

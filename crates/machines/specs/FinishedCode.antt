@@ -1,8 +1,8 @@
 -- Every instruction of the finished machine is one of the tree's.
-use Rattle.std.specs.Prelude.{◌≡◌, refl, Bool, true, false, cond, List, [], ◌∷◌, ◌++◌, map, ℕ, zero, suc, ◌+◌, length, get_or, set}
-use Rattle.std.proofs.Common.{sym, ap, ◌∙◌, subst}
+use Rattle.std.specs.Prelude.{Bool, true, false, cond, List, [], ◌∷◌, ◌++◌, map, ℕ, zero, suc, ◌+◌, length, get_or, set}
+use Rattle.std.proofs.Common.{sym, subst}
 use Rattle.std.proofs.Math.Option.{Option, none, some}
-use Rattle.rules.specs.Instr.{fall, Instruction, isJump, shown, aimed}
+use Rattle.rules.specs.Instr.{fall, Instruction, shown}
 use Rattle.rules.specs.Machine.{SectionOrLine, unfixed, section, line, SectionCode, absent, isFixed}
 use Rattle.rules.specs.Clean.{renIns, renNext, ren, keep, rank, cleanSections}
 use Rattle.rules.specs.Combine.{pair, without, joined, combineAt, combineFuel, combineSections}
@@ -11,6 +11,7 @@ use Rattle.rules.specs.Assemble.{condJump, nextLine, orOne, sectionsMade, ownCod
 use Rattle.rules.specs.Demand.{All}
 use Rattle.bounds.specs.Good.{GoodWhole, CodeGood, NextGood, SectGood}
 use Rattle.bounds.specs.Jumps.{shown-aimed}
+use Rattle.laws.specs.Lists.{all-append, all-set}
 
 -- A script's sections, cleaned and combined.
 unfoldable pub finish : Script → List SectionCode
@@ -20,15 +21,6 @@ module _ {A : Type 0} (P : A → Type 0) where
   pub everywhere : ((a : A) → P a) → (l : List A) → All P l
   everywhere h [] = tt
   everywhere h (a ∷ l) = (h a, everywhere h l)
-
-  all_append : (a b : List A) → All P a → All P b → All P (a ++ b)
-  all_append [] b p q = q
-  all_append (i ∷ a) b p q = (p.0, all_append a b p.1 q)
-
-  all_set : (l : List A) (n : ℕ) (a : A) → P a → All P l → All P (set l n a)
-  all_set [] n a p q = q
-  all_set (x ∷ l) zero a p q = (p, q.1)
-  all_set (x ∷ l) (suc n) a p q = (q.0, all_set l n a p q.1)
 
   all_without : (l : List A) (n : ℕ) → All P l → All P (without l n)
   all_without [] n q = q
@@ -43,10 +35,6 @@ module _ (P : Instruction → Type 0) (G : ℕ → Type 0) where
   getD-good [] q u = (tt, tt)
   getD-good (s ∷ m) q zero = q.0
   getD-good (s ∷ m) q (suc u) = getD-good m q.1 u
-
-  code-append : (a b : List Instruction) → CodeGood P a → CodeGood P b → CodeGood P (a ++ b)
-  code-append [] b p q = q
-  code-append (i ∷ a) b p q = (p.0, code-append a b p.1 q)
 
   code-ren : (f : ℕ → ℕ) (c : List Instruction) → CodeGood P c → CodeGood P (map (renIns f) c)
   code-ren f [] p = p
@@ -75,7 +63,7 @@ module _ (P : Instruction → Type 0) (G : ℕ → Type 0) where
       let a = getD-good m p i in
       let b = getD-good m p j in
       let J = joined (get_or m i absent) (get_or m j absent) in
-      all-ren (fall j) (without (set m i J) j) (all_without S (set m i J) j (all_set S m i J (code-append (get_or m i absent).instrs (get_or m j absent).instrs a.0 b.0, b.1) p))
+      all-ren (fall j) (without (set m i J) j) (all_without S (set m i J) j (all-set S m i J (all-append (λ i. P (shown i)) (get_or m i absent).instrs (get_or m j absent).instrs a.0 b.0, b.1) p))
 
   fuel-good : (k : ℕ) (m : List SectionCode) → All S m → All S (combineFuel k m)
   fuel-good zero m p = p
@@ -115,13 +103,13 @@ module _ (P : Instruction → Type 0) (G : ℕ → Type 0) where
       let lt = stmtSections true e (suc n) nj t in
       let lf = stmtSections true e nf nj f in
       let j = inner [] (link b (entry s (suc nj) k)) ∷ stmtSections b e (suc nj) k s in (
-        (code-append (ownCode e o) (cond_code t c (suc n)) (own-good e o g.0) (cond-good t c (suc n) g.1), tt),
-        all_append S
+        (all-append (λ i. P (shown i)) (ownCode e o) (cond_code t c (suc n)) (own-good e o g.0) (cond-good t c (suc n) g.1), tt),
+        all-append S
             (orEmpty t nj lt)
             (orEmpty f nj lf ++ j)
             (orEmpty-good t nj lt (low-good true e (suc n) nj t g.2))
             (
-            all_append S
+            all-append S
             (orEmpty f nj lf)
             j
             (orEmpty-good f nj lf (low-good true e nf nj f g.3))
@@ -145,7 +133,7 @@ module _ (P : Instruction → Type 0) (G : ℕ → Type 0) where
   tails-good : (L i n : ℕ) (t : Script) → All (GoodWhole P G) t → All S (tails L i n t)
   tails-good L i n [] g = tt
   tails-good L i n (s ∷ t) g =
-      all_append S
+      all-append S
       (tailOf (lineSections L i n s))
       (tails L (suc i) (n + sectionsMade s) t)
       (tail-good (lineSections L i n s) (low-good true (nextLine L i) n (nextLine L i) s g.0))
@@ -153,7 +141,7 @@ module _ (P : Instruction → Type 0) (G : ℕ → Type 0) where
 
   pub lower-good : (t : Script) → All (GoodWhole P G) t → All S (sectionsOf t)
   unfolding sectionsOf
-  lower-good t g = all_append S (heads (length t) 0 (length t) t) (tails (length t) 0 (length t) t) (heads-good (length t) 0 (length t) t g) (tails-good (length t) 0 (length t) t g)
+  lower-good t g = all-append S (heads (length t) 0 (length t) t) (tails (length t) 0 (length t) t) (heads-good (length t) 0 (length t) t g) (tails-good (length t) 0 (length t) t g)
 
   pub clean-good : (m : List SectionCode) → All S m → All S (cleanSections m)
   unfolding cleanSections

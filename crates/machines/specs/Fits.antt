@@ -1,34 +1,28 @@
 -- Which machines, written as words, keep the rules of machine words.
-use Rattle.std.specs.Prelude.{◌≡◌, refl, Bool, cond, not, ◌&&◌, ◌||◌, ℕ, zero, suc, ◌+◌, ◌*◌, ◌/◌, ◌%◌, ◌^◌, ◌≤◌, ◌<◌, leb, ltb, eqb, length, take, drop}
-use Rattle.std.proofs.Common.{sym, ap₂, ◌∙◌, subst, arith, length-append, length-take, take_all, ltb-true, ltb-false, leb-true, leb-false, eqb-true, lt-ltb, le-ltb, eq-eqb, ne_eqb, le-leb}
+use Rattle.std.specs.Prelude.{◌≡◌, refl, Bool, not, ◌&&◌, ◌||◌, ℕ, suc, ◌+◌, ◌≤◌, ◌<◌, ltb, eqb, length, take}
+use Rattle.std.proofs.Common.{ap₂, ◌∙◌, arith, length-take, take_all, ltb-true, ltb-false, lt-ltb, eq-eqb, le-leb}
 use Rattle.std.proofs.Math.Path.{ap}
 use Rattle.std.proofs.Math.Bool.{true, false}
 use Rattle.std.proofs.Math.Option.{Option, none, some}
-use mathlib.Core.List.{List, [], ◌∷◌, ◌++◌, map}
+use mathlib.Core.List.{List, [], ◌∷◌, map}
 use Rattle.std.proofs.Math.ListN.{get_elem?}
 use Rattle.std.proofs.lemmas.List.{length-map}
-use Rattle.std.proofs.lemmas.Bool.{eqb-false}
 use Rattle.rules.specs.Bits.{isOne}
-use Rattle.rules.specs.Instr.{Row, Instruction, isJump, Kind, unused, num, str, val, place, table, kinds}
+use Rattle.rules.specs.Instr.{Row, Instruction, Kind, unused, num, str, val, place, table, kinds}
 use Rattle.laws.specs.Table.{opcode-bits}
 use Rattle.laws.specs.Words.{InsSmall, ins-back, ins-zeros}
 use Rattle.laws.specs.SectionWord.{NextSmall, flag-back, next-back, fields-back, zeros-back}
-use Rattle.rules.specs.Word.{unpack, insWord, wordIns, insSpare, Run, runWord, wordRun, runSpare, Span, spanWord, wordSpan, spanSpare}
-use Rattle.rules.specs.Constants.{stringLayout, mark}
+use Rattle.rules.specs.Word.{unpack, insWord, insSpare, Run, runWord, wordRun, runSpare, Span, spanWord, wordSpan, spanSpare}
+use Rattle.rules.specs.Constants.{stringLayout}
 use Rattle.rules.specs.Machine.{SectionOrLine, unfixed, section, line, SectionCode, isFixed, Machine}
-use Rattle.rules.specs.Tables.{Tables, Counts, allb, fieldFits, insFits, successOf, successFits, startFits, runsFit, spanFits, nameFits, countFits, countsFit, wordsFit, fits, flag, kind_of, target_of, sectionRun, runWords, allCode, encode, countsOf}
-use Rattle.rules.specs.Demand.{All, FieldBelow, FieldsBelow, RegistersBelow}
+use Rattle.rules.specs.Tables.{Tables, Counts, allb, fieldFits, insFits, successOf, successFits, startFits, runsFit, spanFits, nameFits, countFits, countsFit, wordsFit, fits, flag, sectionRun, runWords, allCode, encode, countsOf}
+use Rattle.rules.specs.Demand.{All, FieldBelow}
 use Rattle.bounds.specs.Estimate.{codeLen, code-length}
+use Rattle.laws.specs.Lists.{all-true}
+use Rattle.laws.specs.Sections.{words-length}
+use Rattle.std.specs.Cmp.Derive.{both_true}
 
 -- ---- tests
-
-both_true : (a b : Bool) → a ≡ true → b ≡ true → (a && b) ≡ true
-both_true a b p q = ap₂ (λ (x y : Bool). x && y) p q
-
-all_true : {A : Type 0} (p : A → Bool) (l : List A) → All (λ a. p a ≡ true) l → allb p l ≡ true
-unfolding allb
-all_true p [] h = refl
-all_true p (x ∷ l) h = ap (λ (b : Bool). elim b [ false ↦ false | true ↦ allb p l ]) h.0 ∙ all_true p l h.1
 
 -- ---- instructions
 
@@ -103,7 +97,7 @@ ins-fits u c i h = go (kinds i.op) refl h
         let z = eqb (insSpare (insWord i)) 0 in
         ap (λ (j : Instruction). elim (kinds j.op) [ none ↦ false | some l ↦ z && fieldFits u l.0 j.fst && fieldFits u l.1 j.snd && fieldFits u l.2 j.thd ]) (ins-back i (ins-small u c i h))
         ∙ (ap (λ (x : Option (Kind × Kind × Kind)). elim x [ none ↦ false | some l ↦ z && fieldFits u l.0 i.fst && fieldFits u l.1 i.snd && fieldFits u l.2 i.thd ]) e
-        ∙ both_true (z && fieldFits u k.0 i.fst && fieldFits u k.1 i.snd) (fieldFits u k.2 i.thd) (both_true (z && fieldFits u k.0 i.fst) (fieldFits u k.1 i.snd) (both_true z (fieldFits u k.0 i.fst) (eq-eqb (insSpare (insWord i)) 0 (ins-zeros i (ins-small u c i h))) (field_fits u k.0 i.fst q.0)) (field_fits u k.1 i.snd q.1)) (field_fits u k.2 i.thd q.2))
+        ∙ both_true (both_true (both_true (eq-eqb (insSpare (insWord i)) 0 (ins-zeros i (ins-small u c i h))) (field_fits u k.0 i.fst q.0)) (field_fits u k.1 i.snd q.1)) (field_fits u k.2 i.thd q.2))
 
 -- ---- sections
 
@@ -172,11 +166,8 @@ runs_fit u c i k (s ∷ ss) h e =
     tested : (eqb (runSpare (runWord (sectionRun s k))) 0 && eqb (sectionRun s k).first k && successFits u (successOf (sectionRun s k)) && startFits u i (sectionRun s k)) ≡ true
     tested =
         let r = sectionRun s k in
-        let z = eqb (runSpare (runWord r)) 0 in
         both_true
-        (z && eqb r.first k && successFits u (successOf r))
-        (startFits u i r)
-        (both_true (z && eqb r.first k) (successFits u (successOf r)) (both_true z (eqb r.first k) (eq-eqb (runSpare (runWord r)) 0 (zeros-back s.lineStart s.success k (length s.instrs) (next-small u c s.success h.0.success) (omega (arith, c.instrs)) (omega (arith, c.instrs)))) (eq-eqb k k refl)) (ap (successFits u) (next-back s.success (flag s.lineStart) k (length s.instrs) (next-small u c s.success h.0.success)) ∙ next_fits u s.success h.0.success))
+        (both_true (both_true (eq-eqb (runSpare (runWord r)) 0 (zeros-back s.lineStart s.success k (length s.instrs) (next-small u c s.success h.0.success) (omega (arith, c.instrs)) (omega (arith, c.instrs)))) (eq-eqb k k refl)) (ap (successFits u) (next-back s.success (flag s.lineStart) k (length s.instrs) (next-small u c s.success h.0.success)) ∙ next_fits u s.success h.0.success))
         (start_fits u c i s k h.0)
 
 -- ---- strings, counts, all
@@ -190,8 +181,6 @@ unfolding spanFits wordSpan spanWord
 span_fits u c t f =
     let w = spanWord t in
     both_true
-    (eqb (spanSpare w) 0)
-    (leb (unpack stringLayout 0 w + unpack stringLayout 1 w) u.pool)
     (eq-eqb (spanSpare w) 0 (omega arith))
     (le-leb (unpack stringLayout 0 w + unpack stringLayout 1 w) u.pool (omega (arith, f.inside, f.short, c.pool)))
 
@@ -199,14 +188,9 @@ all_map : {A B : Type 0} (f : A → B) (P : A → Type 0) (Q : B → Type 0) →
 all_map f P Q h [] p = tt
 all_map f P Q h (a ∷ l) p = (h a p.0, all_map f P Q h l p.1)
 
-pub runs-length : (k : ℕ) (ss : List SectionCode) → length (runWords k ss) ≡ length ss
-unfolding runWords
-runs-length k [] = refl
-runs-length k (s ∷ ss) = ap suc (runs-length (k + length s.instrs) ss)
-
 count_fits : {A : Type 0} (n : ℕ) (t : List A) → n ≤ 65535 → n ≤ length t → countFits n t ≡ true
 unfolding countFits
-count_fits n t p q = both_true (leb n 65535) (leb n (length t)) (le-leb n 65535 p) (le-leb n (length t) q)
+count_fits n t p q = both_true (le-leb n 65535 p) (le-leb n (length t) q)
 
 -- What a machine must be for its words to keep the rules.
 pub record MachineFit (m : Machine) : Type 0 where
@@ -236,20 +220,17 @@ module _ (m : Machine) (f : MachineFit m) (l : Tables) (h : InTables l m) where
   unfolding u
   c = f.counted
 
-  and : {a b : Bool} → a ≡ true → b ≡ true → (a && b) ≡ true
-  and {a} {b} p q = both_true a b p q
-
   counts-fit : countsFit l (countsOf m) ≡ true
   unfolding countsFit countsOf u
   counts-fit =
       let ss = m.sections in
-      let a = and (and (and (lt-ltb 0 m.lines c.some-lines) (le-leb m.lines 255 c.lines)) (le-leb m.lines (length ss) c.starts)) (le-leb m.values 65535 c.values) in
-      let b = and a (count_fits (length ss) l.sections c.sections (long-enough (length ss) l.sections (runWords 0 ss) h.sections (runs-length 0 ss))) in
-      let d = and b (count_fits (length (allCode ss)) l.instrs c.instrs (long-enough (length (allCode ss)) l.instrs (map insWord (allCode ss)) h.instrs (length-map (allCode ss) insWord))) in
-      let e = and d (count_fits (length m.numbers) l.numbers c.numbers (long-enough (length m.numbers) l.numbers m.numbers h.numbers refl)) in
-      let g = and e (count_fits (length m.strings) l.strings c.strings (long-enough (length m.strings) l.strings (map spanWord m.strings) h.strings (length-map m.strings spanWord))) in
-      let i = and g (count_fits (length m.pool) l.pool c.pool (long-enough (length m.pool) l.pool m.pool h.pool refl)) in
-      and i (count_fits (length m.names) l.names c.names (long-enough (length m.names) l.names m.names h.names refl))
+      let a = both_true (both_true (both_true (lt-ltb 0 m.lines c.some-lines) (le-leb m.lines 255 c.lines)) (le-leb m.lines (length ss) c.starts)) (le-leb m.values 65535 c.values) in
+      let b = both_true a (count_fits (length ss) l.sections c.sections (long-enough (length ss) l.sections (runWords 0 ss) h.sections (words-length 0 ss))) in
+      let d = both_true b (count_fits (length (allCode ss)) l.instrs c.instrs (long-enough (length (allCode ss)) l.instrs (map insWord (allCode ss)) h.instrs (length-map (allCode ss) insWord))) in
+      let e = both_true d (count_fits (length m.numbers) l.numbers c.numbers (long-enough (length m.numbers) l.numbers m.numbers h.numbers refl)) in
+      let g = both_true e (count_fits (length m.strings) l.strings c.strings (long-enough (length m.strings) l.strings (map spanWord m.strings) h.strings (length-map m.strings spanWord))) in
+      let i = both_true g (count_fits (length m.pool) l.pool c.pool (long-enough (length m.pool) l.pool m.pool h.pool refl)) in
+      both_true i (count_fits (length m.names) l.names c.names (long-enough (length m.names) l.names m.names h.names refl))
 
   words-fit : wordsFit l (countsOf m) ≡ true
   unfolding wordsFit countsOf u
@@ -257,11 +238,11 @@ module _ (m : Machine) (f : MachineFit m) (l : Tables) (h : InTables l m) where
       let ss = m.sections in
       let i = map insWord (allCode ss) in
       let t = map spanWord m.strings in
-      let a = ap (allb (insFits u)) h.instrs ∙ all_true (insFits u) i (all_map insWord (λ (x : Instruction). Held u (kinds x.op) x) (λ w. insFits u w ≡ true) (ins-fits u c) (allCode ss) f.instrs) in
+      let a = ap (allb (insFits u)) h.instrs ∙ all-true (insFits u) i (all_map insWord (λ (x : Instruction). Held u (kinds x.op) x) (λ w. insFits u w ≡ true) (ins-fits u c) (allCode ss) f.instrs) in
       let b = ap (runsFit u 0 0) h.sections ∙ runs_fit u c 0 0 ss f.sects (omega (arith, code-length ss)) in
-      let d = ap (allb (spanFits u)) h.strings ∙ all_true (spanFits u) t (all_map spanWord (SpanFit u.pool) (λ w. spanFits u w ≡ true) (span_fits u c) m.strings f.spans) in
-      let e = ap (allb (nameFits u)) h.names ∙ all_true (nameFits u) m.names f.names in
-      and (and (and a b) d) e
+      let d = ap (allb (spanFits u)) h.strings ∙ all-true (spanFits u) t (all_map spanWord (SpanFit u.pool) (λ w. spanFits u w ≡ true) (span_fits u c) m.strings f.spans) in
+      let e = ap (allb (nameFits u)) h.names ∙ all-true (nameFits u) m.names f.names in
+      both_true (both_true (both_true a b) d) e
 
   -- Such tables keep the rules.
   pub tables-fit : fits l (countsOf m) ≡ true
@@ -272,7 +253,7 @@ pub in-encoded : (m : Machine) → InTables (encode m) m
 unfolding encode
 in-encoded m =
     record {
-      sections = take_all (length m.sections) (runWords 0 m.sections) (omega (arith, runs-length 0 m.sections));
+      sections = take_all (length m.sections) (runWords 0 m.sections) (omega (arith, words-length 0 m.sections));
       instrs = take_all (length (allCode m.sections)) (map insWord (allCode m.sections)) (omega (arith, length-map (allCode m.sections) insWord));
       numbers = take_all (length m.numbers) m.numbers (omega arith);
       strings = take_all (length m.strings) (map spanWord m.strings) (omega (arith, length-map m.strings spanWord));

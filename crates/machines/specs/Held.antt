@@ -1,38 +1,24 @@
 -- Sections whose registers and targets are there make machine words that keep the rules.
-use Rattle.std.specs.Prelude.{◌≡◌, refl, Bool, true, false, cond, not, ◌&&◌, ◌||◌, ℕ, zero, suc, ◌+◌, ◌≤◌, ◌<◌, leb, length, get_or, drop}
-use Rattle.std.proofs.Common.{sym, ap, ap₂, ◌∙◌, subst, arith, leb-true}
+use Rattle.std.specs.Prelude.{◌≡◌, refl, Bool, true, false, not, ◌&&◌, ℕ, zero, suc, ◌≤◌, ◌<◌, leb, length, get_or, drop}
+use Rattle.std.proofs.Common.{sym, subst, arith, leb-true}
 use Rattle.std.proofs.Math.Option.{Option, none, some}
-use mathlib.Core.List.{List, [], ◌∷◌, ◌++◌, map}
-use Rattle.std.proofs.Math.ListN.{get_elem?}
+use mathlib.Core.List.{List, [], ◌∷◌}
 use Rattle.rules.specs.Instr.{Row, Instruction, isJump, shown, Kind, unused, num, str, val, place, table, kinds}
 use Rattle.rules.specs.Machine.{SectionOrLine, unfixed, section, line, SectionCode, absent, Machine}
 use Rattle.rules.specs.Tables.{Counts, countsOf, allb, allCode, nameFits}
-use Rattle.rules.specs.Demand.{All, FieldBelow, FieldsBelow, RegistersBelow}
+use Rattle.rules.specs.Demand.{All, FieldsBelow, RegistersBelow}
 use Rattle.bounds.specs.Good.{CodeGood, NextGood, SectGood}
 use Rattle.bounds.specs.Jumps.{aimed-other}
-use Rattle.laws.specs.Lists.{not-both}
-use Rattle.machines.specs.Fits.{row_of, isPlace, Holds, Held, Counted, SectFit, NextFit, SpanFit, MachineFit}
+use Rattle.laws.specs.Lists.{not-both, all-append, all-at, both}
+use Rattle.machines.specs.Fits.{row_of, isPlace, Held, Counted, SectFit, NextFit, SpanFit, MachineFit}
 use Rattle.machines.specs.Targets.{JumpBelow, NextBelow, Aims, Loose}
-use Rattle.machines.specs.Shape.{all-at, numbered}
+use Rattle.machines.specs.Shape.{numbered}
+use Rattle.laws.specs.Table.{all-at as all-rows}
 
 -- ---- only jumps hold a section
 
 abbrev noPlace : Kind × Kind × Kind → Bool
 noPlace k = not (isPlace k.0) && not (isPlace k.1) && not (isPlace k.2)
-
-all_lookup : {A : Type 0} (p : A → Bool) (l : List A) → allb p l ≡ true → (o : ℕ) (k : A) → get_elem? l o ≡ some k → p k ≡ true
-unfolding allb
-all_lookup p [] h o k e = absurd (let z : ◌≡◌ {A = ℕ} 0 1 = cc in omega arith)
-all_lookup {A} p (x ∷ l) h zero k e = let q : x ≡ k = cc in subst (λ (y : A). p y ≡ true) q (go (p x) refl h)
-  where
-    go : (b : Bool) → p x ≡ b → elim b as (λ z. Bool) [ false ↦ false | true ↦ allb p l ] ≡ true → p x ≡ true
-    go true q r = q
-    go false q r = absurd (not-both false r refl)
-all_lookup p (x ∷ l) h (suc o) k e = all_lookup p l (go (p x) h) o k e
-  where
-    go : (b : Bool) → elim b as (λ z. Bool) [ false ↦ false | true ↦ allb p l ] ≡ true → allb p l ≡ true
-    go true r = r
-    go false r = absurd (not-both false r refl)
 
 rowPlain : Row → Bool
 rowPlain r = noPlace r.kinds
@@ -47,7 +33,7 @@ no_place zero h k e = absurd (not-both true refl h)
 no_place (suc zero) h k e = absurd (not-both true refl h)
 no_place (suc (suc o)) h k e =
     let r = row_of (suc (suc o)) k e in
-    subst (λ (z : Kind × Kind × Kind). noPlace z ≡ true) r.2 (all_lookup rowPlain (drop 2 table) rest_plain o r.0 r.1)
+    subst (λ (z : Kind × Kind × Kind). noPlace z ≡ true) r.2 (all-rows rowPlain (drop 2 table) o r.0 rest_plain (sym r.1))
 
 -- ---- an instruction holds what it must
 
@@ -64,17 +50,12 @@ not-place str h q = not-both true refl (sym q)
 not-place val h q = not-both true refl (sym q)
 not-place place h q = not-both true refl (sym h)
 
-three : (a b c : Bool) → (a && b && c) ≡ true → (a ≡ true) × (b ≡ true) × (c ≡ true)
-three true true true e = (refl, refl, refl)
-three true true false e = absurd (not-both true refl (sym e))
-three true false c e = absurd (not-both true refl (sym e))
-three false b c e = absurd (not-both true refl (sym e))
-
 held-other : (u : Counts) (i : Instruction) (k : Option (Kind × Kind × Kind)) → ((l : Kind × Kind × Kind) → k ≡ some l → noPlace l ≡ true) → FieldsBelow u k i → Held u k i
 held-other u i none n f = f
 held-other u i (some k) n f =
-    let t = three (not (isPlace k.0)) (not (isPlace k.1)) (not (isPlace k.2)) (n k refl) in
-    ((f.0, λ q. absurd (not-place k.0 t.0 q)), (f.1, λ q. absurd (not-place k.1 t.1 q)), (f.2, λ q. absurd (not-place k.2 t.2 q)))
+    let p = both (not (isPlace k.0) && not (isPlace k.1)) (not (isPlace k.2)) (n k refl) in
+    let q = both (not (isPlace k.0)) (not (isPlace k.1)) p.0 in
+    ((f.0, λ r. absurd (not-place k.0 q.0 r)), (f.1, λ r. absurd (not-place k.1 q.1 r)), (f.2, λ r. absurd (not-place k.2 p.1 r)))
 
 held : (u : Counts) (i : Instruction) → RegistersBelow u (shown i) → JumpBelow u.sections i → Held u (kinds i.op) i
 held u i r j = go (isJump i) refl
@@ -84,10 +65,6 @@ held u i r j = go (isJump i) refl
     go false e = held-other u i (kinds i.op) (no_place i.op e) (subst (RegistersBelow u) (aimed-other 0 i e) r)
 
 -- ---- sections
-
-all_append : {A : Type 0} (P : A → Type 0) (a b : List A) → All P a → All P b → All P (a ++ b)
-all_append P [] b p q = q
-all_append P (i ∷ a) b p q = (p.0, all_append P a b p.1 q)
 
 module _ (u : Counts) where
   abbrev H : Instruction → Type 0
@@ -103,7 +80,7 @@ module _ (u : Counts) where
   all_held : (ss : List SectionCode) → All Sound ss → All (Aims u.sections) ss → All H (allCode ss)
   unfolding allCode
   all_held [] g a = tt
-  all_held (s ∷ ss) g a = all_append H s.instrs (allCode ss) (code-held s.instrs g.0.0 a.0.0) (all_held ss g.1 a.1)
+  all_held (s ∷ ss) g a = all-append H s.instrs (allCode ss) (code-held s.instrs g.0.0 a.0.0) (all_held ss g.1 a.1)
 
   next-fit : (x : SectionOrLine) → NextGood (λ r. r < u.numbers) x → NextBelow u.sections x → NextFit u x
   next-fit unfixed g a = tt

@@ -1,22 +1,15 @@
 -- Where the sections of a list and of a line stand in the lowered machine, and that the lines' first ones are fixed and start lines.
-use Rattle.std.specs.Prelude.{◌≡◌, ◌≢◌, ◌⊎◌, Bool, false, cond, ℕ, zero, suc, pred, ◌+◌, ◌%◌, ◌≤◌, ◌<◌, length, eqb}
-use Rattle.std.proofs.Math.Path.{refl, ap, ap₂, subst}
-use Rattle.std.proofs.Common.{sym, ◌∙◌, inl, inr, le_of_suc-le-suc, not-suc-le-zero, arith, length-append, eqb-true}
+use Rattle.std.specs.Prelude.{◌≡◌, ℕ, zero, suc, ◌+◌, ◌<◌, length}
+use Rattle.std.proofs.Math.Path.{refl, ap, subst}
+use Rattle.std.proofs.Common.{sym, ◌∙◌, le_of_suc-le-suc, not-suc-le-zero, arith}
 use Rattle.std.proofs.Math.Bool.{true}
-use mathlib.Core.List.{List, [], ◌∷◌, ◌++◌, map, append_assoc, append-nil}
-use Rattle.std.proofs.Math.Nat.{mod-lt}
+use mathlib.Core.List.{List, [], ◌∷◌, ◌++◌}
 use Rattle.std.proofs.Math.ListN.{get_or, get_or-append}
 use Rattle.std.proofs.Math.Seq.{get_or-append-add}
-use Rattle.std.proofs.lemmas.Bool.{eqb-false}
-use Rattle.bounds.specs.Lengths.{length-low, length-orEmpty, heads-length, length-tailOf, nextLine-lt}
-use Rattle.rules.specs.Instr.{Instruction, isJump, shown, aimed}
-use Rattle.rules.specs.Machine.{SectionOrLine, unfixed, section, line, SectionCode, absent, isFixed}
-use Rattle.rules.specs.Walk.{Ask, atJump, atGoto, Halt, ask, lost, Step, to, done, End, more, over, Leg, pre, onto, run, State, Trace, follow, inside, through, enter, stepSection, walkSections, across}
-use Rattle.rules.specs.Script.{Stmts, nil, plain, goto, ite, Script, isNil}
-use Rattle.rules.specs.Assemble.{condJump, nextLine, orOne, sectionsMade, ownCode, entry, link, cond_code, inner, orEmpty, stmtSections, asStart, head_of, tailOf, lineSections, heads, tails, sectionsOf}
-use Rattle.rules.specs.ReadScript.{Out, behind, erred, gone, stop, thenOn, and_then, readOwn, readGoto, readIf, readCond, read, onward, stepLine, readScript, readIns}
-use Rattle.laws.specs.Lists.{not-both}
-use Rattle.bounds.specs.Jumps.{shown-aimed}
+use Rattle.bounds.specs.Lengths.{length-low, heads-length, length-tailOf}
+use Rattle.rules.specs.Machine.{SectionCode, absent, isFixed}
+use Rattle.rules.specs.Script.{Stmts, nil, plain, goto, ite, Script}
+use Rattle.rules.specs.Assemble.{nextLine, sectionsMade, stmtSections, head_of, tailOf, lineSections, heads, tails, sectionsOf}
 
 -- ---- sections found in a machine: the first at p, the others from n + 1 on
 
@@ -79,6 +72,12 @@ module _ (m : List SectionCode) (L : ℕ) where
   line-fits [] e u b h f = tt
   line-fits (s ∷ l) e u b h f = ((ap (λ (z : SectionCode). z.instrs) h, ap (λ (z : SectionCode). z.success) h), f.1)
 
+pub head_fixed : (e b : ℕ) (s : Stmts) → isFixed (head_of e (stmtSections true e b e s)).success ≡ true
+head_fixed e b nil = refl
+head_fixed e b (plain o s) = refl
+head_fixed e b (goto o r s) = refl
+head_fixed e b (ite o c u v s) = refl
+
 module _ (t : Script) (pos : 0 < length t) where
   abbrev L : ℕ
   L = length t
@@ -104,12 +103,6 @@ module _ (t : Script) (pos : 0 < length t) where
       (λ (k : ℕ). Stands (sectionsOf t) (base L t u) (base L t u) (tailOf (lineSections L k (base L t u) (get_or t u nil))))
       (omega arith)
       (tails-at (sectionsOf t) L 0 L t fits-tails u h)
-
-  head_fixed : (e b : ℕ) (s : Stmts) → isFixed (head_of e (stmtSections true e b e s)).success ≡ true
-  head_fixed e b nil = refl
-  head_fixed e b (plain o s) = refl
-  head_fixed e b (goto o r s) = refl
-  head_fixed e b (ite o c u v s) = refl
 
   head-start : (e : ℕ) (l : List SectionCode) → (head_of e l).lineStart ≡ true
   head-start e [] = refl

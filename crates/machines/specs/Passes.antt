@@ -1,26 +1,22 @@
 -- The passes on a parsed tree's machine: none of them refuses, and finishing keeps within the estimates.
-use Rattle.std.specs.Prelude.{◌≡◌, refl, Bool, true, false, ◌&&◌, List, [], ◌∷◌, ℕ, ◌+◌, ◌≤◌, ◌<◌, length, take}
+use Rattle.std.specs.Prelude.{◌≡◌, Bool, true, false, ◌&&◌, List, ℕ, length, take}
 use Rattle.std.proofs.Common.{sym, ap, ap₂, ◌∙◌, subst, arith}
 use Rattle.rules.specs.Refusal as Refusal
 use Rattle.rules.specs.Bits.{Res, refused, ok}
 use Rattle.rules.specs.Tree.{Tree}
 use Rattle.rules.specs.Parse.{parse}
 use Rattle.rules.specs.Machine.{SectionCode, Machine}
-use Rattle.rules.specs.Tables.{Tables, Counts, countsOf, allb}
-use Rattle.rules.specs.Script.{Script}
+use Rattle.rules.specs.Tables.{Tables, countsOf, allb}
 use Rattle.rules.specs.Assemble.{sectionsOf}
 use Rattle.rules.specs.Reading.{script}
-use Rattle.rules.specs.Replace.{replaced}
 use Rattle.rules.specs.Clean.{cleanSections, cleaned}
 use Rattle.rules.specs.Combine.{combineSections, combined}
-use Rattle.rules.specs.Lowered.{Options, assemble, lowered, finished}
-use Rattle.rules.specs.Annotate.{annotate}
+use Rattle.rules.specs.Lowered.{Options, lowered, finished}
 use Rattle.rules.specs.Operations.{size_of, estimate, fixedHere, jumpsFixed, cleanIn, allAhead, combineIn}
 use Rattle.machines.specs.Ranks.{rank-low}
-use Rattle.joins.specs.Along.{Ready}
 use Rattle.machines.specs.Lowered.{lower-fixed}
 use Rattle.bounds.specs.Stay.{lowered-sections}
-use Rattle.bounds.specs.LimitsTree.{Limits, limits}
+use Rattle.bounds.specs.LimitsTree.{limits}
 use Rattle.bounds.specs.Estimate.{codeLen, code-length, WithinEstimate, estimated}
 use Rattle.machines.specs.TreeFits.{Sizes, pos, ready, finish-counts, lines_are}
 use Rattle.machines.specs.Accepts.{all-fixed, clean-test}

@@ -1,11 +1,9 @@
 -- Numbers of the sections that cleaning keeps: what stands at t, stands at its rank; the lines' sections keep theirs. A cleaned machine is ready to be combined.
-use Rattle.std.specs.Prelude.{◌≡◌, ◌≢◌, ◌⊎◌, Bool, true, false, cond, List, [], ◌∷◌, ◌++◌, map, ℕ, zero, suc, pred, ◌+◌, ◌%◌, ◌≤◌, ◌<◌, length, get_or, take}
+use Rattle.std.specs.Prelude.{◌≡◌, Bool, true, false, List, [], ◌∷◌, ℕ, zero, suc, pred, ◌≤◌, ◌<◌, length, get_or, take}
 use Rattle.std.proofs.Math.Path.{refl, ap}
-use Rattle.std.proofs.Common.{sym, ap₂, ◌∙◌, subst, inl, inr, append_assoc, le_of_suc-le-suc, not-suc-le-zero, mod-lt, arith}
+use Rattle.std.proofs.Common.{sym, ◌∙◌, not-suc-le-zero, arith}
 use Rattle.std.proofs.Math.ListN.{get_or-map}
-use Rattle.rules.specs.Instr.{Instruction}
-use Rattle.rules.specs.Machine.{SectionOrLine, unfixed, section, line, SectionCode, absent, isFixed}
-use Rattle.rules.specs.Walk.{Halt, lost, Step, to, done, End, more, over, Leg, pre, onto, run, State, Trace, through, enter, stepSection, walkSections}
+use Rattle.rules.specs.Machine.{SectionCode, absent, isFixed}
 use Rattle.rules.specs.Clean.{ren, keep, rank, cleanSections}
 use Rattle.joins.specs.Along.{Fixed, fixed-map, Ready}
 use Rattle.laws.specs.Lists.{not-both}

@@ -1,34 +1,26 @@
 -- Cleaned and combined machines: their targets are there, and only the lines' first sections start lines.
-use Rattle.std.specs.Prelude.{◌≡◌, refl, ◌⊎◌, Bool, true, false, cond, not, ◌&&◌, ◌||◌, List, [], ◌∷◌, ◌++◌, map, ℕ, zero, suc, pred, ◌+◌, ◌-◌, ◌≤◌, ◌<◌, eqb, length, get_or, set}
-use Rattle.std.proofs.Common.{sym, ap, ap₂, ◌∙◌, subst, inl, inr, le_of_suc-le-suc, not-suc-le-zero, arith, length-append, get_or-append-add}
-use Rattle.std.proofs.lemmas.List.{length-map}
-use Rattle.std.proofs.Math.ListN.{get_or-append}
+use Rattle.std.specs.Prelude.{◌≡◌, refl, Bool, true, false, cond, not, ◌&&◌, ◌||◌, List, [], ◌∷◌, ◌++◌, map, ℕ, suc, ◌+◌, ◌-◌, ◌≤◌, ◌<◌, eqb, length, get_or, set}
+use Rattle.std.proofs.Common.{sym, ap, ◌∙◌, subst, arith, length-append, get_or-append-add}
+use Rattle.std.proofs.lemmas.List.{length-map, map-append}
 use Rattle.rules.specs.Instr.{fall, Instruction, isJump}
 use Rattle.rules.specs.Machine.{SectionOrLine, unfixed, section, line, SectionCode, absent, isFixed}
-use Rattle.rules.specs.Script.{Stmts, nil, plain, goto, ite, Script}
-use Rattle.rules.specs.Assemble.{nextLine, sectionsMade, stmtSections, head_of, lineSections, heads, tails, sectionsOf}
+use Rattle.rules.specs.Script.{Script}
+use Rattle.rules.specs.Assemble.{nextLine, sectionsMade, head_of, lineSections, heads, tails, sectionsOf}
 use Rattle.rules.specs.Clean.{renIns, renNext, ren, keep, rank, cleanSections}
 use Rattle.rules.specs.Combine.{hit, refsNext, refsIns, refsCode, joined, combineAt, combineSections}
 use Rattle.rules.specs.Demand.{All}
 use Rattle.bounds.specs.Lengths.{heads-length}
 use Rattle.joins.specs.References.{no-hit}
-use Rattle.joins.specs.Numbers.{lt-or-le, fall-low, fall-high}
-use Rattle.joins.specs.Along.{Ready, behind-lines, join-ready, combine-along}
+use Rattle.joins.specs.Numbers.{fall-below}
+use Rattle.joins.specs.Along.{Ready, behind-lines, combine-along}
 use Rattle.joins.specs.Pairs.{Pair}
-use Rattle.joins.specs.Joins.{Came, came, Stands, joint, other, stands, clear-at, first-in, second-in, length-join}
-use Rattle.machines.specs.Fits.{loose, AllAt}
+use Rattle.joins.specs.Joins.{came, Stands, joint, other, stands, clear-at, first-in, second-in, length-join}
+use Rattle.machines.specs.Fits.{AllAt}
 use Rattle.machines.specs.Targets.{JumpBelow, NextBelow, Aims, Loose, tails-loose}
+use Rattle.laws.specs.Lists.{all-append, all-of, all-at}
+use Rattle.machines.specs.Lowered.{head_fixed}
 
 -- ---- lists by their elements
-
-pub all_of : {A : Type 0} (P : A → Type 0) (d : A) (l : List A) → ((t : ℕ) → t < length l → P (get_or l t d)) → All P l
-all_of P d [] h = tt
-all_of P d (x ∷ l) h = (h 0 (omega arith), all_of P d l (λ t p. h (suc t) (omega arith)))
-
-pub all-at : {A : Type 0} (P : A → Type 0) (d : A) (l : List A) → All P l → (t : ℕ) → t < length l → P (get_or l t d)
-all-at P d [] h t p = absurd (not-suc-le-zero p)
-all-at P d (x ∷ l) h zero p = h.0
-all-at P d (x ∷ l) h (suc t) p = all-at P d l h.1 t (le_of_suc-le-suc p)
 
 pub numbered : (P : ℕ → SectionCode → Type 0) (i : ℕ) (l : List SectionCode) → ((t : ℕ) → t < length l → P (i + t) (get_or l t absent)) → AllAt P i l
 numbered P i [] h = tt
@@ -36,13 +28,6 @@ numbered P i (s ∷ l) h =
     (subst (λ (n : ℕ). P n s) (omega arith) (h 0 (omega arith)), numbered P (suc i) l (λ t p. subst (λ (n : ℕ). P n (get_or l t absent)) (omega arith) (h (suc t) (omega arith))))
 
 -- ---- targets, when j falls out
-
-fall-below : (j t n : ℕ) → t < suc n → (t ≡ j → ⊥) → j < suc n → fall j t < n
-fall-below j t n h ne k = go (lt-or-le j t)
-  where
-    go : (j < t) ⊎ (t ≤ j) → fall j t < n
-    go (inl p) = subst (λ (x : ℕ). x < n) (sym (fall-high j t p)) (omega arith)
-    go (inr p) = subst (λ (x : ℕ). x < n) (sym (fall-low j t p)) (omega (arith, ne))
 
 code-fall : (j n : ℕ) → j < suc n → (c : List Instruction) → refsCode j c ≡ 0 → All (JumpBelow (suc n)) c → All (JumpBelow n) (map (renIns (fall j)) c)
 code-fall j n k [] e h = tt
@@ -57,17 +42,13 @@ next-fall j n k unfixed e h = tt
 next-fall j n k (section t) e h = fall-below j t n h (no-hit t j e) k
 next-fall j n k (line r) e h = tt
 
-all_append : {A : Type 0} (P : A → Type 0) (a b : List A) → All P a → All P b → All P (a ++ b)
-all_append P [] b p q = q
-all_append P (i ∷ a) b p q = (p.0, all_append P a b p.1 q)
-
 -- Behind the L lines' first sections none starts a line.
 abbrev pub Inner : ℕ → List SectionCode → Type 0
 Inner L m = (t : ℕ) → L ≤ t → t < length m → (get_or m t absent).lineStart ≡ false
 
 module _ (L : ℕ) (pos : 0 < L) where
   aims-step : (m : List SectionCode) → Ready L m → (i j : ℕ) → Pair m i j → All (Aims (length m)) m → All (Aims (length (combineAt m i j))) (combineAt m i j)
-  aims-step m r i j pr h = all_of (Aims n) absent (combineAt m i j) at
+  aims-step m r i j pr h = all-of (Aims n) absent (combineAt m i j) at
     where
       n : ℕ
       n = length (combineAt m i j)
@@ -83,7 +64,7 @@ module _ (L : ℕ) (pos : 0 < L) where
 
       new : (v : ℕ) → v < length m → Stands m i j pr v → Aims (length m) (get_or (set m i (joined (get_or m i absent) (get_or m j absent))) v absent)
       new v p (joint e q) =
-          subst (Aims (length m)) (sym q) (all_append (JumpBelow (length m)) (get_or m i absent).instrs (get_or m j absent).instrs (old i b.0).0 (old j b.1).0, (old j b.1).1)
+          subst (Aims (length m)) (sym q) (all-append (JumpBelow (length m)) (get_or m i absent).instrs (get_or m j absent).instrs (old i b.0).0 (old j b.1).0, (old j b.1).1)
       new v p (other e q) = subst (Aims (length m)) (sym q) (old v p)
 
       at : (t : ℕ) → t < length (combineAt m i j) → Aims (length (combineAt m i j)) (get_or (combineAt m i j) t absent)
@@ -129,12 +110,6 @@ keep_append (s ∷ a) b = go (isFixed s.success) (keep_append a b)
     go true h = ap (λ (l : List SectionCode). s ∷ l) h
     go false h = h
 
-head_fixed : (e b : ℕ) (s : Stmts) → isFixed (head_of e (stmtSections true e b e s)).success ≡ true
-head_fixed e b nil = refl
-head_fixed e b (plain o s) = refl
-head_fixed e b (goto o r s) = refl
-head_fixed e b (ite o c u v s) = refl
-
 keep-heads : (L i n : ℕ) (t : Script) → keep (heads L i n t) ≡ heads L i n t
 keep-heads L i n [] = refl
 keep-heads L i n (s ∷ t) =
@@ -162,10 +137,6 @@ ren-inner : (f : ℕ → ℕ) (m : List SectionCode) → All NoStart m → All N
 ren-inner f [] h = tt
 ren-inner f (s ∷ m) h = (h.0, ren-inner f m h.1)
 
-map-two : (f : ℕ → ℕ) (a b : List SectionCode) → map (ren f) (a ++ b) ≡ map (ren f) a ++ map (ren f) b
-map-two f [] b = refl
-map-two f (s ∷ a) b = ap (λ (l : List SectionCode). ren f s ∷ l) (map-two f a b)
-
 pub clean-inner : (t : Script) → Inner (length t) (cleanSections (sectionsOf t))
 unfolding sectionsOf cleanSections
 clean-inner t u h k =
@@ -175,7 +146,7 @@ clean-inner t u h k =
     let f = rank (A ++ B) in
     let A' = map (ren f) A in
     let B' = map (ren f) (keep B) in
-    let split : map (ren f) (keep (A ++ B)) ≡ A' ++ B' = ap (map (ren f)) (keep_append A B ∙ ap (λ (l : List SectionCode). l ++ keep B) (keep-heads L 0 L t)) ∙ map-two f A (keep B) in
+    let split : map (ren f) (keep (A ++ B)) ≡ A' ++ B' = ap (map (ren f)) (keep_append A B ∙ ap (λ (l : List SectionCode). l ++ keep B) (keep-heads L 0 L t)) ∙ map-append (ren f) A (keep B) in
     let la : length A' ≡ L = length-map A (ren f) ∙ heads-length L 0 L t in
     let e : get_or (map (ren f) (keep (A ++ B))) u absent ≡ get_or B' (u - L) absent = ap (λ (l : List SectionCode). get_or l u absent) split ∙ (ap (λ (n : ℕ). get_or (A' ++ B') n absent) (omega arith) ∙ get_or-append-add A' B' (u - L) absent) in
     ap (λ (s : SectionCode). s.lineStart) e ∙ all-at NoStart absent B' (ren-inner f (keep B) (keep-inner B (tails-loose L 0 L t))) (u - L) (omega (arith, length-append A' B', ap length split))

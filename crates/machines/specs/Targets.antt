@@ -1,17 +1,17 @@
 -- Every jump and successor of a script's machine leads to a section that is there; which sections start lines.
-use Rattle.std.specs.Prelude.{◌≡◌, refl, ◌⊎◌, Bool, true, false, cond, not, ◌&&◌, ◌||◌, List, [], ◌∷◌, ◌++◌, map, ℕ, zero, suc, pred, ◌+◌, ◌≤◌, ◌<◌, eqb, length, get_or, take}
-use Rattle.std.proofs.Common.{sym, ap, ap₂, ◌∙◌, subst, inl, inr, le_of_suc-le-suc, not-suc-le-zero, arith, length-append}
+use Rattle.std.specs.Prelude.{◌≡◌, refl, Bool, true, false, cond, List, [], ◌∷◌, ◌++◌, map, ℕ, zero, suc, pred, ◌+◌, ◌≤◌, ◌<◌, length, take}
+use Rattle.std.proofs.Common.{sym, subst, arith}
 use Rattle.std.proofs.lemmas.List.{length-map}
-use Rattle.std.proofs.Math.ListN.{get_or-map, get_or-eq_default}
 use Rattle.rules.specs.Instr.{Instruction, isJump, aimed}
-use Rattle.rules.specs.Machine.{SectionOrLine, unfixed, section, line, SectionCode, absent, isFixed}
+use Rattle.rules.specs.Machine.{SectionOrLine, unfixed, section, line, SectionCode, isFixed}
 use Rattle.rules.specs.Script.{Stmts, nil, plain, goto, ite, Script}
-use Rattle.rules.specs.Assemble.{nextLine, orOne, sectionsMade, ownCode, entry, link, condJump, cond_code, inner, orEmpty, stmtSections, head_of, tailOf, lineSections, heads, tails, sectionsOf}
+use Rattle.rules.specs.Assemble.{nextLine, orOne, sectionsMade, ownCode, entry, link, cond_code, inner, orEmpty, stmtSections, head_of, tailOf, lineSections, heads, tails, sectionsOf}
 use Rattle.rules.specs.Clean.{renIns, renNext, ren, keep, rank, cleanSections}
 use Rattle.rules.specs.Demand.{All}
 use Rattle.bounds.specs.Lengths.{nextLine-lt}
 use Rattle.bounds.specs.Own.{sizes}
 use Rattle.machines.specs.Fits.{loose}
+use Rattle.laws.specs.Lists.{all-append}
 
 abbrev pub JumpBelow : ℕ → Instruction → Type 0
 JumpBelow n i = isJump i ≡ true → i.fst < n
@@ -23,10 +23,6 @@ NextBelow n (line r) = Unit {0}
 
 abbrev pub Aims : ℕ → SectionCode → Type 0
 Aims n s = All (JumpBelow n) s.instrs × NextBelow n s.success
-
-all_append : {A : Type 0} (P : A → Type 0) (a b : List A) → All P a → All P b → All P (a ++ b)
-all_append P [] b p q = q
-all_append P (i ∷ a) b p q = (p.0, all_append P a b p.1 q)
 
 aimed-below : (n t : ℕ) (i : Instruction) → t < n → JumpBelow n (aimed t i)
 aimed-below n t i h q = subst (λ (b : Bool). cond b t i.fst < n) (sym q) h
@@ -79,13 +75,13 @@ module _ (N e : ℕ) (he : e < N) where
       let lt = stmtSections true e (suc n) nj t in
       let lf = stmtSections true e nf nj f in
       let r = inner [] (link b (entry s (suc nj) k)) ∷ stmtSections b e (suc nj) k s in (
-        (all_append (JumpBelow N) (ownCode e o) (cond_code t c (suc n)) (own-aims o) (cond-aims t c (suc n) (omega arith)), omega arith),
-        all_append (Aims N)
+        (all-append (JumpBelow N) (ownCode e o) (cond_code t c (suc n)) (own-aims o) (cond-aims t c (suc n) (omega arith)), omega arith),
+        all-append (Aims N)
             (orEmpty t nj lt)
             (orEmpty f nj lf ++ r)
             (empty-aims t nj lt (omega arith) (low-aims true (suc n) nj t (omega arith) (omega arith)))
             (
-            all_append (Aims N)
+            all-append (Aims N)
             (orEmpty f nj lf)
             r
             (empty-aims f nj lf (omega arith) (low-aims true nf nj f (omega arith) (omega arith)))
@@ -114,7 +110,7 @@ module _ (N L : ℕ) (hL : L ≤ N) where
   tails-aim i n (s ∷ t) h k =
       let e = nextLine L i in
       let he : e < N = omega (arith, nextLine-lt L i (omega arith)) in
-      all_append (Aims N)
+      all-append (Aims N)
       (tailOf (lineSections L i n s))
       (tails L (suc i) (n + sectionsMade s) t)
       (tail-aims N (lineSections L i n s) (low-aims N e he true n e s he (omega arith)))
@@ -125,7 +121,7 @@ unfolding sectionsOf
 lower-aims t =
     let L = length t in
     let N = L + sizes t in
-    all_append (Aims N) (heads L 0 L t) (tails L 0 L t) (heads-aim N L (omega arith) 0 L t (omega arith) (omega arith)) (tails-aim N L (omega arith) 0 L t (omega arith) (omega arith))
+    all-append (Aims N) (heads L 0 L t) (tails L 0 L t) (heads-aim N L (omega arith) 0 L t (omega arith) (omega arith)) (tails-aim N L (omega arith) 0 L t (omega arith) (omega arith))
 
 -- ---- starts
 
@@ -148,7 +144,7 @@ low-loose b e n k (ite o c t f s) =
     let lt = stmtSections true e (suc n) nj t in
     let lf = stmtSections true e nf nj f in
     let r = inner [] (link b (entry s (suc nj) k)) ∷ stmtSections b e (suc nj) k s in
-    (refl, all_append Loose (orEmpty t nj lt) (orEmpty f nj lf ++ r) (empty-loose t nj lt (low-loose true e (suc n) nj t)) (all_append Loose (orEmpty f nj lf) r (empty-loose f nj lf (low-loose true e nf nj f)) (refl, low-loose b e (suc nj) k s)))
+    (refl, all-append Loose (orEmpty t nj lt) (orEmpty f nj lf ++ r) (empty-loose t nj lt (low-loose true e (suc n) nj t)) (all-append Loose (orEmpty f nj lf) r (empty-loose f nj lf (low-loose true e nf nj f)) (refl, low-loose b e (suc nj) k s)))
 
 tail-loose : (l : List SectionCode) → All Loose l → All Loose (tailOf l)
 tail-loose [] p = tt
@@ -157,7 +153,7 @@ tail-loose (s ∷ l) p = (refl, p.1)
 pub tails-loose : (L i n : ℕ) (t : Script) → All Loose (tails L i n t)
 tails-loose L i n [] = tt
 tails-loose L i n (s ∷ t) =
-    all_append Loose (tailOf (lineSections L i n s)) (tails L (suc i) (n + sectionsMade s) t) (tail-loose (lineSections L i n s) (low-loose true (nextLine L i) n (nextLine L i) s)) (tails-loose L (suc i) (n + sectionsMade s) t)
+    all-append Loose (tailOf (lineSections L i n s)) (tails L (suc i) (n + sectionsMade s) t) (tail-loose (lineSections L i n s) (low-loose true (nextLine L i) n (nextLine L i) s)) (tails-loose L (suc i) (n + sectionsMade s) t)
 
 -- ---- cleaned
 

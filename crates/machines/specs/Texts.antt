@@ -1,26 +1,24 @@
 -- The strings of a parsed tree are short, and their spans and the names' words keep the rules.
-use Rattle.std.specs.Prelude.{◌≡◌, refl, Bool, true, false, ◌||◌, List, [], ◌∷◌, ◌++◌, ℕ, zero, suc, ◌+◌, ◌≤◌, ◌<◌, eqb, ltb, length, get_or}
-use Rattle.std.proofs.Common.{sym, ap, ap₂, ◌∙◌, subst, arith, length-append, lt-ltb}
+use Rattle.std.specs.Prelude.{◌≡◌, refl, Bool, true, false, List, [], ◌∷◌, ◌++◌, ℕ, ◌+◌, ◌≤◌, ◌<◌, eqb, ltb, length, get_or}
+use Rattle.std.proofs.Common.{sym, subst, arith, length-append, lt-ltb}
 use Rattle.std.proofs.Math.Option.{Option, none, some}
-use Rattle.rules.specs.Opcode as Op
 use Rattle.rules.specs.Tree.{Name, Tree, Assignop, Binop, Unop, Expr, Block}
 use Rattle.rules.specs.Tree.{And, Or, Add, Sub, Mul, Div, Mod, Pow, Eq, Ne, Le, Lt, Ge, Gt}
 use Rattle.rules.specs.Tree.{Neg, Not, Abs, Sqrt, Fact, Sin, Cos, Tan, Asin, Acos, Atan}
 use Rattle.rules.specs.Tree.{Plain, AddTo, SubTo, MulTo, DivTo, ModTo, PowTo}
 use Rattle.rules.specs.Tree.{binop, unop, ident, number, string, goto, ite, assign, end}
-use Rattle.rules.specs.Instr.{Instruction}
-use Rattle.rules.specs.Word.{Span}
 use Rattle.rules.specs.Constants.{mark}
 use Rattle.rules.specs.Tables.{Counts, nameFits}
-use Rattle.rules.specs.CodegenData.{CodegenData, Lower, emit, newNum, newStr, scoped, bindName}
-use Rattle.rules.specs.Operators.{getVariable, copyValreg, makeTruthy, numberify, makeVal, makeArithBinop, applyBinop, applyUnop, codegenIncdec}
-use Rattle.rules.specs.Annotate.{codegenFromExpr, store, assignBy, codegenFromAssign, condition, lineNumber, annotateStmts, annotateLines, fresh, annotate}
+use Rattle.rules.specs.CodegenData.{CodegenData, scoped, bindName}
+use Rattle.rules.specs.Operators.{getVariable, copyValreg, makeTruthy, numberify, applyBinop, applyUnop, codegenIncdec}
+use Rattle.rules.specs.Annotate.{codegenFromExpr, assignBy, codegenFromAssign, condition, lineNumber, annotateStmts, annotateLines, fresh, annotate}
 use Rattle.rules.specs.Lowered.{Options, nameWord, protects, nameWords, spans, texts}
 use Rattle.rules.specs.Demand.{All}
 use Rattle.bounds.specs.Room.{NameBelow}
 use Rattle.bounds.specs.Limits.{ShortExpr}
 use Rattle.bounds.specs.LimitsTree.{ShortBlock}
 use Rattle.machines.specs.Fits.{SpanFit}
+use Rattle.std.proofs.lemmas.Bool.{or_right}
 
 -- ---- operators leave the strings as they are
 
@@ -152,10 +150,6 @@ pub spans_fit : (ts : List (List ℕ)) → All Short ts → All (SpanFit (length
 spans_fit ts h = spans-from (length (texts ts)) 0 ts h (omega arith)
 
 -- ---- names
-
-or_right : (a b : Bool) → b ≡ true → (a || b) ≡ true
-or_right true b h = refl
-or_right false b h = h
 
 word_fits : (u : Counts) (b : Bool) (v : Option ℕ) → NameBelow u.values v → nameFits u (nameWord b v) ≡ true
 unfolding nameFits nameWord

@@ -2,44 +2,41 @@
 use Rattle.std.specs.Prelude.{◌≡◌, Bool, true, false, cond, not, ◌&&◌, ◌||◌, ℕ, zero, suc, ◌+◌, ◌≤◌, ◌<◌, eqb, get_or, set}
 use Rattle.std.proofs.Math.Path.{refl, sym, ap, subst}
 use Rattle.std.proofs.Common.{ap₂, ◌∙◌, le_of_suc-le-suc, not-suc-le-zero, arith, length-set, length-append, get_or-set_other}
-use mathlib.Core.List.{List, [], ◌∷◌, ◌++◌, map}
+use mathlib.Core.List.{List, [], ◌∷◌, map}
 use Rattle.std.proofs.Math.ListN.{length}
 use Rattle.std.proofs.lemmas.List.{length-map}
-use Rattle.rules.specs.Bits.{Res, ok}
+use Rattle.rules.specs.Bits.{ok}
 use Rattle.rules.specs.Tree.{Tree}
 use Rattle.rules.specs.Parse.{parse}
-use Rattle.rules.specs.Instr.{fall, Instruction}
-use Rattle.rules.specs.Machine.{SectionOrLine, SectionCode, absent, isFixed, Machine}
-use Rattle.rules.specs.Tables.{Counts, countsOf, allCode, nameFits, fits, encode}
-use Rattle.rules.specs.Script.{Script}
-use Rattle.rules.specs.CodegenData.{CodegenData}
+use Rattle.rules.specs.Instr.{fall}
+use Rattle.rules.specs.Machine.{SectionCode, absent, isFixed, Machine}
+use Rattle.rules.specs.Tables.{Counts, countsOf, nameFits, fits, encode}
 use Rattle.rules.specs.Annotate.{annotate}
 use Rattle.rules.specs.Assemble.{sectionsOf}
-use Rattle.rules.specs.Replace.{Regs}
 use Rattle.rules.specs.Reading.{script}
 use Rattle.rules.specs.Clean.{renIns, ren, keep, rank, cleanSections, cleaned}
 use Rattle.rules.specs.Combine.{without, joined, combineAt, combineSections, combined}
-use Rattle.rules.specs.Lowered.{Options, spans, texts, lowered, finished}
+use Rattle.rules.specs.Lowered.{Options, texts, lowered, finished}
 use Rattle.rules.specs.Demand.{All, RegistersBelow}
-use Rattle.bounds.specs.Good.{SectGood}
 use Rattle.machines.specs.Ranks.{clean_ready}
 use Rattle.joins.specs.Along.{Ready, behind-lines, combine-along, combine-ready}
 use Rattle.joins.specs.Pairs.{Pair}
 use Rattle.joins.specs.Joins.{first-in, second-in, length-join}
 use Rattle.machines.specs.Lowered.{lower-fixed, lower-starts}
 use Rattle.machines.specs.FinishedCode.{lower-good, clean-good, combined-good}
-use Rattle.bounds.specs.Room.{Room, roomOf, Fine, NameBelow}
-use Rattle.bounds.specs.Own.{sizes, annotate-made}
+use Rattle.bounds.specs.Room.{Room, roomOf, NameBelow}
+use Rattle.bounds.specs.Own.{annotate-made}
 use Rattle.bounds.specs.Stay.{strings-stay, numbers_stay, good-for, lowered-sections, script-lines}
 use Rattle.bounds.specs.Lengths.{length-spans}
 use Rattle.bounds.specs.LimitsTree.{Limits, limits}
 use Rattle.bounds.specs.Estimate.{codeLen, code-length, sections-length}
 use Rattle.bounds.specs.Bounds.{Small, small}
-use Rattle.machines.specs.Fits.{Counted, SpanFit, MachineFit, encoded-fits, loose}
-use Rattle.machines.specs.Targets.{Aims, Loose, lower-aims, clean-aims, clean-length}
-use Rattle.machines.specs.Shape.{combine-aims, Inner, combine-inner, lower-later, clean-inner, keep_some}
+use Rattle.machines.specs.Fits.{Counted, SpanFit, MachineFit, encoded-fits}
+use Rattle.machines.specs.Targets.{Aims, lower-aims, clean-aims, clean-length}
+use Rattle.machines.specs.Shape.{combine-aims, combine-inner, lower-later, clean-inner, keep_some}
 use Rattle.machines.specs.Texts.{annotate-short, spans_fit, names-fit}
 use Rattle.machines.specs.Held.{SectsFit, machine-fit}
+use Rattle.laws.specs.Sections.{keep-length}
 
 -- ---- how much code is left
 
@@ -52,14 +49,6 @@ keep-len [] = omega arith
 keep-len (s ∷ m) = go (isFixed s.success) (keep-len m)
   where
     go : (b : Bool) → codeLen (keep m) ≤ codeLen m → codeLen (cond b (s ∷ keep m) (keep m)) ≤ length s.instrs + codeLen m
-    go true h = omega arith
-    go false h = omega arith
-
-pub keep-length : (m : List SectionCode) → length (keep m) ≤ length m
-keep-length [] = omega arith
-keep-length (s ∷ m) = go (isFixed s.success) (keep-length m)
-  where
-    go : (b : Bool) → length (keep m) ≤ length m → length (cond b (s ∷ keep m) (keep m)) ≤ suc (length m)
     go true h = omega arith
     go false h = omega arith
 

@@ -1,5 +1,5 @@
 -- `replace` of the rules at each way out of the code. Assumes nothing.
-use mathlib.Core.Path.{◌≡◌, refl, sym, ap, ◌∙◌}
+use mathlib.Core.Path.{◌≡◌, sym, ap, ◌∙◌}
 use mathlib.Core.Bool.{Bool, true, false, cond, ◌&&◌}
 use mathlib.Core.List.{List, [], ◌∷◌, map}
 use Prim.Native.Nat.{ℕ, ◌+◌, ◌^◌, ◌<◌, ◌≤◌}
@@ -19,12 +19,13 @@ use Rattle.rules.specs.Tables.{Tables, Counts, readSections, fits, countsOf}
 use Rattle.rules.specs.Replace.{ruleOf, Regs, replaceIns, replaceCode, replaceSections, replaced}
 use Rattle.rules.specs.Operations.{write, slots, replaceIn, replace}
 use Rattle.laws.specs.Words.{ins-small}
+use Rattle.laws.specs.Lists.{both}
 use Rattle.words.specs.Told.{replacedOf, replacedBy}
 use Rattle.words.proofs.Rules.{replaced-is}
 use Rattle.words.specs.declared.instr.Replaced.{Replaced}
 use Rattle.words.specs.declared.instr.Replaced.TheVariants.{Stays, Goes, Turns, Number, Blank}
 use Rattle.tables.specs.Runs.{count_of, total, sectionOf, held}
-use Rattle.tables.proofs.Sound.{no, sound}
+use Rattle.tables.proofs.Sound.{sound}
 use Rattle.tables.proofs.Read.{read-nil, read-cons, count-is, whole-total}
 use Rattle.tables.proofs.Change.{machine_of, change-12, change-no, change-ok, counts_of, written, put_back, strings-back}
 use Rattle.replace.specs.Pass.{numbersBy, stringsBy, number_of, stringOf, sums, AddsAll, regs_of, whole_of, Ready, Rewrote}
@@ -91,12 +92,6 @@ replace-by t m false e = rw (e, replaceIn)
 slots-are : {A B : Type 0} (ws : List A) (t : List B) (n : ℕ) → length ws ≡ n → slots ws t ≡ (leb n (length t) && leb n mostCount)
 unfolding slots
 slots-are ws t n e = rw e
-
-four : (a b c d : Bool) → (a && b) && (c && d) ≡ true → (a ≡ true) × (b ≡ true) × (c ≡ true) × (d ≡ true)
-four true true true d e = (refl, refl, refl, e)
-four true true false d e = absurd (no e)
-four true false c d e = absurd (no e)
-four false b c d e = absurd (no e)
 
 -- ---- the replaced machine, its counts and its words
 
@@ -172,16 +167,18 @@ module _ (t : Tables) (u : Counts) where
           ready =
               let k = sound t u h in
               let c = k.counts in
-              let q = four (leb (u.numbers + n) (length t.numbers)) (leb (u.numbers + n) mostCount) (leb (u.strings + s) (length t.strings)) (leb (u.strings + s) mostCount) (rw (x-is, y-is) at e) in
+              let q = both x y e in
+              let v = both (leb (u.numbers + n) (length t.numbers)) _ (sym x-is ∙ q.0) in
+              let w = both (leb (u.strings + s) (length t.strings)) _ (sym y-is ∙ q.1) in
               record {
                 sections = c.sections;
                 instrs = c.instrs;
                 instrs-few = c.instrs-few;
                 covered = whole-total t u k;
-                numbers = rw (← a.numbers) (leb-true _ _ q.0);
-                numbers-few = rw (← a.numbers) (leb-true _ _ q.1);
-                strings = rw (← a.strings) (leb-true _ _ q.2);
-                strings-few = rw (← a.strings) (leb-true _ _ q.3);
+                numbers = rw (← a.numbers) (leb-true _ _ v.0);
+                numbers-few = rw (← a.numbers) (leb-true _ _ v.1);
+                strings = rw (← a.strings) (leb-true _ _ w.0);
+                strings-few = rw (← a.strings) (leb-true _ _ w.1);
                 pool-few = c.pool-few;
                 plain = strings-back t u k small;
               }

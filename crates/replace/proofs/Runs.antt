@@ -10,7 +10,8 @@ use lib.Seq.{slice, slice-cons, slice_empty, length-take-le}
 use Rattle.rules.specs.Instr.{Instruction}
 use Rattle.rules.specs.Word.{wordIns, insWord}
 use Rattle.rules.specs.Replace.{Regs, replaceIns, replaceCode}
-use Rattle.tables.proofs.InPlace.{map-append, drop-later, head-same}
+use Rattle.std.proofs.lemmas.List.{map-append}
+use Rattle.tables.proofs.InPlace.{drop-later, head-same}
 use Rattle.replace.specs.Pass.{number_of, stringOf, sums, regs_of, Plain, Spare, Stepped, Open, Ran}
 use Rattle.replace.proofs.Adding.{sums-nil, sums-cons}
 

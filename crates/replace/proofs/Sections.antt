@@ -2,7 +2,7 @@
 use mathlib.Core.Path.{◌≡◌, refl, sym, ap, ◌∙◌}
 use mathlib.Core.Bool.{Bool}
 use mathlib.Core.List.{List, [], ◌∷◌, ◌++◌, map, append_assoc, append-nil}
-use Prim.Native.Nat.{ℕ, suc, ◌+◌, ◌-◌, ◌≤◌, ◌<◌}
+use Prim.Native.Nat.{ℕ, ◌+◌, ◌-◌, ◌≤◌, ◌<◌}
 use native.Mathlib.Omega.{arith}
 use native.Mathlib.Numerals.{add-one}
 use lib.IntN.{ℤ, pos}
@@ -14,21 +14,14 @@ use Rattle.rules.specs.Word.{wordRun, runWord, wordIns, insWord, spanWord, wordS
 use Rattle.rules.specs.Machine.{SectionOrLine, SectionCode}
 use Rattle.rules.specs.Tables.{successOf, readSections, sectionRun, runWords, allCode, runOf}
 use Rattle.rules.specs.Replace.{Regs, replaceCode, with_code, replaceSections}
-use Rattle.words.specs.Runs as W
+use Rattle.laws.specs.Sections.{words-nil, words-cons, words-length, code-nil, code-cons, replaced-length}
+use Rattle.std.proofs.lemmas.List.{map-append}
 use Rattle.tables.specs.Runs.{count_of, total, sectionOf, held}
-use Rattle.tables.proofs.InPlace.{map-append, set-taken, drop-take, drop-later, head-same}
-use Rattle.tables.proofs.Read.{read-nil, read-cons, read_length, words-nil, words-cons, words-length, word-is, count-is, code-nil, code-cons}
+use Rattle.tables.proofs.InPlace.{set-taken, drop-take, drop-later, head-same}
+use Rattle.tables.proofs.Read.{read-nil, read-cons, read_length, word-is, count-is, total-nil, total-cons}
 use Rattle.tables.proofs.Change.{put_is, put-over}
 use Rattle.replace.specs.Pass.{number_of, stringOf, sums, regs_of, Plain, Open, Ran, whole_of, Ready, Rewritten, Rewrote}
 use Rattle.replace.proofs.Adding.{sums-append}
-
-no-total : total [] ≡ 0
-unfolding total
-no-total = refl
-
-total-cons : (w : ℕ) (ws : List ℕ) → total (w ∷ ws) ≡ count_of w + total ws
-unfolding total
-total-cons w ws = refl
 
 -- j sections read, a instructions; b instructions done, k numbers, s strings
 pub record Replacing (ss is : List ℕ) (ns : List ℤ) (ts : List ℕ) (n e k₀ s₀ p : ℕ) (ss' is' : List ℕ) (ns' : List ℤ) (ts' : List ℕ) (j a b k s : ℕ) : Type 0 where
@@ -86,7 +79,7 @@ module _ (ss is : List ℕ) (ns : List ℤ) (ts : List ℕ) (n e k₀ s₀ p : �
         let y = r.b-a in
         let z : j ≡ n = omega arith in
         let f : slice j n ss ≡ [] = rw z (slice_empty n ss) in
-        let g : total (slice j n ss) ≡ 0 = rw f no-total in
+        let g : total (slice j n ss) ≡ 0 = rw f total-nil in
         let l = r.left in
         let d : a ≡ e = omega arith in
         record {
@@ -236,10 +229,6 @@ module _ (ss is : List ℕ) (ns : List ℤ) (ts : List ℕ) (n e k₀ s₀ p : �
             }
 
 -- ---- the whole, with the freed words zeroed
-
-replaced-length : (p : ℕ) (r : Regs) (ms : List SectionCode) → length (replaceSections p r ms).0 ≡ length ms
-replaced-length p r [] = refl
-replaced-length p r (m ∷ ms) = ap suc (replaced-length p (replaceCode p r m.instrs).1 ms)
 
 module _ (ss is : List ℕ) (ns : List ℤ) (ts : List ℕ) (n e k s p : ℕ) (o : Ready ss is ns ts n e k s p) (ss' is' : List ℕ) (ns' : List ℤ) (ts' : List ℕ) (b k' s' : ℕ) (w : Rewritten ss is ns ts ss' is' ns' ts' n e k s p b k' s') where
   abbrev whole : List SectionCode × Regs

@@ -12,6 +12,7 @@ use Rattle.rules.specs.Opcode.{CopyNum, CopyStr}
 use Rattle.rules.specs.Word.{Span, wordIns, insWord, wordSpan, spanWord}
 use Rattle.rules.specs.Replace.{Rule, stays, goes, turns, number, result, blank, ruleOf, Regs, replaceBy, replaceIns}
 use Rattle.laws.specs.Words.{ins-small, span-back}
+use Rattle.std.proofs.lemmas.List.{map-append}
 use Rattle.words.specs.Told.{replacedOf, replacedBy}
 use Rattle.words.proofs.Rules.{replaced-is}
 use Rattle.words.specs.declared.instr.Instruction as I
@@ -20,7 +21,7 @@ use Rattle.words.specs.declared.instr.StrReg as S
 use Rattle.words.specs.declared.number.Number as Z
 use Rattle.words.specs.declared.instr.Replaced.{Replaced}
 use Rattle.words.specs.declared.instr.Replaced.TheVariants.{Stays, Goes, Turns, Number, Blank}
-use Rattle.tables.proofs.InPlace.{map-append, set-taken, set_rest}
+use Rattle.tables.proofs.InPlace.{set-taken, set_rest}
 use Rattle.replace.specs.Pass.{regs_of, Plain, NumberAdded, BlankAdded, Stepped}
 use Rattle.replace.proofs.Adding.{numbers-are, strings-are}
 

@@ -1,5 +1,5 @@
 // How many numbers and strings a replacement will add, by the answers of dup_replace_with. Asks that the counted words lie inside the table.
-ghost use Rattle.std.specs.Prelude.{◌≡◌, ◌≤◌, length};
+ghost use Rattle.std.specs.Prelude.{◌≤◌, length};
 ghost use Rattle.replace.specs.Pass.{Adds, AddsAll};
 
 use words::instr::{Instruction, Replaced};

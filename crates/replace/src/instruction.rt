@@ -1,6 +1,6 @@
 // One instruction replaced: what becomes of it is written behind the instructions that are done, an added number or string behind the
 // registers. Shown equal to `replaceIns` of `rules`. Asks that there is room.
-ghost use Rattle.std.specs.Prelude.{◌≡◌, ◌<◌, length};
+ghost use Rattle.std.specs.Prelude.{◌<◌, length};
 ghost use Rattle.replace.specs.Pass.{NumberAdded, BlankAdded, Spare, Stepped};
 
 use words::instr::{Instruction, NumReg, Replaced, StrReg};

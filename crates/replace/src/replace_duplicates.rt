@@ -1,7 +1,6 @@
 // replace_duplicates of yogi's IRMachine, in place: sections in order, kept instructions moved down, added numbers and strings behind the
 // registers. Shown to leave the words of `replaceSections` of `rules` and zeros behind them. Asks that the words hold a machine and that
 // there is room for what is added.
-ghost use Rattle.std.specs.Prelude.{◌≡◌};
 ghost use Rattle.replace.specs.Pass.{Ready, Rewrote};
 
 use crate::instruction::At;

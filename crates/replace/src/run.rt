@@ -1,6 +1,5 @@
 // The instructions of one section replaced in place, replace_duplicates of yogi's SectionCode. Shown equal to `replaceCode` of `rules`.
 // Asks that there is room.
-ghost use Rattle.std.specs.Prelude.{◌≡◌};
 ghost use Rattle.replace.specs.Pass.{Open, Ran};
 
 use crate::instruction::{At, replace_instruction};

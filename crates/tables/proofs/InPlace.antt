@@ -1,17 +1,12 @@
 -- Words of a table changed in place, one turn after the other: what is done, then what is left to do, is all that was to do. Assumes nothing.
-use mathlib.Core.Path.{◌≡◌, refl, sym, ap, ◌∙◌}
+use mathlib.Core.Path.{◌≡◌, sym, ap, ◌∙◌}
 use mathlib.Core.List.{List, [], ◌∷◌, ◌++◌, map, append_assoc}
 use Prim.Native.Nat.{ℕ, zero, suc, ◌+◌, ◌-◌, ◌<◌, ◌≤◌}
 use native.Mathlib.Omega.{arith}
 use native.Mathlib.Numerals.{add-one, unary_clauses}
-use native.Mathlib.Nat.{sub_self}
-use lib.ListN.{length, take, drop, get_or, set, replicate, take-append-drop, length-drop}
-use lib.Seq.{slice, slice-cons, slice_empty, take-suc-set, take-set-lt, drop-set-lt, append_snoc, take-suc, get_or-drop, drop-drop, take-nil}
+use lib.ListN.{length, take, drop, get_or, set, replicate, length-drop}
+use lib.Seq.{slice, slice-cons, take-suc-set, take-set-lt, drop-set-lt, append_snoc, take-suc, get_or-drop, drop-drop, take-nil}
 use Rattle.tables.specs.Runs.{Down}
-
-pub map-append : {A B : Type 0} (g : A → B) (xs ys : List A) → map g (xs ++ ys) ≡ map g xs ++ map g ys
-map-append g [] ys = refl
-map-append g (x ∷ xs) ys = ap (λ (l : List _). g x ∷ l) (map-append g xs ys)
 
 -- a store at i below n
 module _ {A : Type 0} (s : List A) (i n : ℕ) (v : A) (h : i < n) (l : n ≤ length s) where
@@ -27,9 +22,6 @@ module _ {A : Type 0} (s : List A) (i n : ℕ) (v : A) (h : i < n) (l : n ≤ le
 -- ---- each word by a function
 
 module _ (g : ℕ → ℕ) (s : List ℕ) (i n : ℕ) where
-  pub map-done : n ≤ i → i ≤ n → take i s ++ (map g (slice i n s) ++ drop n s) ≡ s
-  map-done a b = let e : i ≡ n = omega arith in rw (e, slice_empty) (take-append-drop n s)
-
   pub map_more : i < n → n ≤ length s → (v : ℕ) → v ≡ g (get_or s i 0) → take (i + 1) (set s i v) ++ (map g (slice (i + 1) n (set s i v)) ++ drop n (set s i v)) ≡ take i s ++ (map g (slice i n s) ++ drop n s)
   map_more h l v e =
       let z : i < i + 1 = omega arith in
@@ -39,9 +31,6 @@ module _ (g : ℕ → ℕ) (s : List ℕ) (i n : ℕ) where
 
 -- whatever a zero is there
 module _ {A : Type 0} (z : A) (s : List A) (i n : ℕ) where
-  pub zero-done : n ≤ i → i ≤ n → take i s ++ (replicate (n - i) z ++ drop n s) ≡ s
-  zero-done a b = let e : i ≡ n = omega arith in rw (e, sub_self) (take-append-drop n s)
-
   pub zero_more : i < n → n ≤ length s → take (i + 1) (set s i z) ++ (replicate (n - (i + 1)) z ++ drop n (set s i z)) ≡ take i s ++ (replicate (n - i) z ++ drop n s)
   zero_more h l =
       let e : n - i ≡ suc (n - (i + 1)) = omega arith in

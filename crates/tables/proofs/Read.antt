@@ -1,7 +1,7 @@
 -- Sections read from words and written to words, one by one; runs cover the counted instructions. Assumes nothing.
 use mathlib.Core.Path.{◌≡◌, refl, sym, ap, ◌∙◌}
 use mathlib.Core.Bool.{Bool, true, false, cond}
-use mathlib.Core.List.{List, [], ◌∷◌, ◌++◌}
+use mathlib.Core.List.{List, [], ◌∷◌}
 use Prim.Native.Nat.{ℕ, suc, ◌+◌}
 use native.Mathlib.Omega.{arith}
 use lib.Dec.{eqb}
@@ -9,10 +9,10 @@ use lib.ListN.{length, take, drop}
 use borrow.Author.Tests.{eqb-true}
 use Rattle.rules.specs.Word.{wordRun, runWord}
 use Rattle.rules.specs.Machine.{SectionOrLine, SectionCode}
-use Rattle.rules.specs.Tables.{Tables, Counts, allb, runsFit, readSections, sectionRun, runWords, allCode, runOf}
-use Rattle.words.specs.Runs as Runs
+use Rattle.rules.specs.Tables.{Tables, Counts, allb, runsFit, readSections, sectionRun, runOf}
+use Rattle.rules.specs.Operations.{fixedHere}
 use Rattle.tables.specs.Rules.{sectionFits}
-use Rattle.tables.specs.Runs.{count_of, total, sectionOf}
+use Rattle.tables.specs.Runs.{count_of, total, sectionOf, fixed_word}
 use Rattle.tables.proofs.Sound.{no, Sound}
 
 pub read-nil : (is : List ℕ) → readSections [] is ≡ []
@@ -28,19 +28,6 @@ unfolding readSections
 read_length [] is = refl
 read_length (w ∷ ws) is = ap suc (read_length ws (drop (wordRun w).count is))
 
-pub words-nil : (k : ℕ) → runWords k [] ≡ []
-unfolding runWords
-words-nil k = refl
-
-pub words-cons : (k : ℕ) (s : SectionCode) (ss : List SectionCode) → runWords k (s ∷ ss) ≡ runWord (sectionRun s k) ∷ runWords (k + length s.instrs) ss
-unfolding runWords
-words-cons k s ss = refl
-
-pub words-length : (k : ℕ) (ss : List SectionCode) → length (runWords k ss) ≡ length ss
-unfolding runWords
-words-length k [] = refl
-words-length k (s ∷ ss) = ap suc (words-length (k + length s.instrs) ss)
-
 -- a section's word by its parts
 pub word-is : (k : ℕ) (s : SectionCode) (l : Bool) (o : SectionOrLine) (c : ℕ) → l ≡ s.lineStart → o ≡ s.success → c ≡ length s.instrs → runWord (runOf l o k c) ≡ runWord (sectionRun s k)
 word-is k s l o c p q r = rw (p, q, r)
@@ -49,13 +36,9 @@ pub count-is : (w : ℕ) → (wordRun w).count ≡ count_of w
 unfolding count_of
 count-is w = refl
 
-pub code-nil : allCode [] ≡ []
-unfolding allCode
-code-nil = refl
-
-pub code-cons : (s : SectionCode) (ss : List SectionCode) → allCode (s ∷ ss) ≡ s.instrs ++ allCode ss
-unfolding allCode
-code-cons s ss = refl
+pub fixed-is : (w : ℕ) (is : List ℕ) → fixedHere (sectionOf w is) ≡ fixed_word w
+unfolding fixedHere fixed_word
+fixed-is w is = refl
 
 -- ---- all
 
@@ -69,6 +52,14 @@ all_cons p x xs true e = rw (e, allb)
 all_cons p x xs false e = rw (e, allb)
 
 -- ---- the runs' total
+
+pub total-nil : total [] ≡ 0
+unfolding total
+total-nil = refl
+
+pub total-cons : (w : ℕ) (ws : List ℕ) → total (w ∷ ws) ≡ count_of w + total ws
+unfolding total
+total-cons w ws = refl
 
 pub runs-cons : (u : Counts) (i k w : ℕ) (ws : List ℕ) (b : Bool) → sectionFits u i k w ≡ b → runsFit u i k (w ∷ ws) ≡ cond b (runsFit u (suc i) (k + count_of w) ws) false
 unfolding runsFit sectionFits count_of

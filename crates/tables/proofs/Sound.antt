@@ -9,6 +9,7 @@ use lib.ListN.{length, take}
 use borrow.Author.Tests.{leb-true, ltb-true}
 use Rattle.rules.specs.Constants.{mostLines, mostCount}
 use Rattle.rules.specs.Tables.{Tables, Counts, allb, insFits, runsFit, spanFits, nameFits, countFits, countsFit, wordsFit, fits}
+use Rattle.laws.specs.Lists.{both}
 
 pub no : ◌≡◌ {A = Bool} false true → ⊥
 no e = let z : ◌≡◌ {A = ℕ} 0 1 = cc in omega arith
@@ -22,10 +23,6 @@ row a (b ∷ bs) = row (a && b) bs
 abbrev Each : List Bool → Type 0
 Each [] = Unit {0}
 Each (b ∷ bs) = (b ≡ true) × Each bs
-
-pub both : (a b : Bool) → a && b ≡ true → (a ≡ true) × (b ≡ true)
-both true b e = (refl, e)
-both false b e = absurd (no e)
 
 each : (a : Bool) (bs : List Bool) → row a bs ≡ true → (a ≡ true) × Each bs
 each a [] e = (e, tt)

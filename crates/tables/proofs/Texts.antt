@@ -7,11 +7,9 @@ use Prim.Native.Nat.{ℕ, zero, suc, ◌+◌, ◌<◌, ◌≤◌}
 use native.Mathlib.Omega.{arith}
 use lib.Dec.{eqb, leb}
 use lib.ListN.{length, get_or, get_elem?}
-use borrow.Author.Tests.{le-ltb, leb-true}
-use Rattle.rules.specs.Constants.{mostCount}
+use borrow.Author.Tests.{leb-true}
 use Rattle.rules.specs.Word.{Span, wordSpan, spanSpare}
 use Rattle.rules.specs.Operations.{stringWord, textSpan}
-use Rattle.laws.specs.Words.{span_small}
 
 pub at_some : (l : List ℕ) (n : ℕ) → n < length l → some (get_or l n 0) ≡ get_elem? l n
 at_some [] n h = absurd (omega arith)
@@ -20,11 +18,6 @@ at_some (x ∷ l) (suc n) h = at_some l n (omega arith)
 
 abbrev span_of : ℕ → ℕ → Span
 span_of s n = record { start = s; size = n }
-
--- a number that is no register's
-no_number : (strings : List ℕ) (r : ℕ) → mostCount ≤ r → none ≡ stringWord strings r
-unfolding stringWord
-no_number strings r h = sym (rw (le-ltb r mostCount h, stringWord))
 
 module _ (strings pool : List ℕ) (r : ℕ) where
   span_none : none ≡ stringWord strings r → span_of (length pool) 0 ≡ textSpan strings pool r
@@ -35,9 +28,6 @@ module _ (strings pool : List ℕ) (r : ℕ) where
   unfolding textSpan
   span-some w e true f = sym (rw (← e, ← f, textSpan))
   span-some w e false f = sym (rw (← e, ← f, textSpan))
-
-  pub past-registers : mostCount ≤ r → span_of (length pool) 0 ≡ textSpan strings pool r
-  past-registers h = span_none (no_number strings r h)
 
   -- what holds of the pool's end, and of every word's place in the pool, holds of a text's place
   module _ (P : Span → Type 0) (none_is : P (span_of (length pool) 0)) (some_is : (w : ℕ) → (wordSpan w).start + (wordSpan w).size ≤ length pool → P (wordSpan w)) where
@@ -63,6 +53,3 @@ module _ (strings pool : List ℕ) (r : ℕ) where
   -- it lies in the pool, and is short
   pub place_inside : (s n : ℕ) → span_of s n ≡ textSpan strings pool r → s + n ≤ length pool
   place_inside s n e = let P : Span → Type 0 = λ z. z.start + z.size ≤ length pool in subst P (sym e) (span-by P (omega arith) (λ w h. h))
-
-  pub place_short : (s n : ℕ) → span_of s n ≡ textSpan strings pool r → n < 128
-  place_short s n e = let P : Span → Type 0 = λ z. z.size < 128 in subst P (sym e) (span-by P (omega arith) (λ w h. (span_small w).1.0))

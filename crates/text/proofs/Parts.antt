@@ -11,18 +11,14 @@ use mir.Syntax.{w64}
 use mir.Val.{SFits, to_z, of_z}
 use mir.ValLaws.{to_z-of_z}
 use lib.ListN.{length, drop, set, get_or}
-use lib.Seq.{drop-cons, drop-length, get_or-set_same, drop-set-lt, lt-length-set}
+use lib.Seq.{drop-cons, drop-length}
 use borrow.Author.Tests.{ltb-true, lt-ltb, le-ltb}
 use Rattle.rules.specs.Listing as Listing
+use Rattle.std.proofs.lemmas.List.{drop-set}
 use Rattle.text.specs.Numbers.{nums}
 use Rattle.text.proofs.Writes.{Are}
 
 -- ---- a number
-
-set-drop : (d : List ℕ) (k b : ℕ) → k < length d → drop k (set d k b) ≡ b ∷ drop (suc k) d
-set-drop d k b h =
-    let p : k < suc k = omega arith in
-    rw (drop-cons (set d k b) k 0 (lt-length-set d k b h), get_or-set_same d k b 0 h, drop-set-lt (suc k) d k b p)
 
 digits_last : (k x : ℕ) (t : List ℕ) → x < 10 → Listing.digits (suc k) x t ≡ (48 + x % 10) ∷ t
 unfolding Listing.digits
@@ -42,13 +38,13 @@ module _ (d : List ℕ) (x : ℕ) where
   digit_last zero h l e = absurd (omega arith)
   digit_last (suc k) h l e =
       let s : suc k - 1 ≡ k = omega arith in
-      sym (rw (s, set-drop d k (48 + x % 10) (omega arith), digits_last k x (drop (suc k) d) e))
+      sym (rw (s, drop-set d k (48 + x % 10) (omega arith), add-one k, digits_last k x (drop (suc k) d) e))
 
   pub digit_more : (k : ℕ) → 0 < k → k ≤ length d → 10 ≤ x → Listing.digits k x (drop k d) ≡ Listing.digits (k - 1) (x / 10) (drop (k - 1) (set d (k - 1) (48 + x % 10)))
   digit_more zero h l e = absurd (omega arith)
   digit_more (suc k) h l e =
       let s : suc k - 1 ≡ k = omega arith in
-      sym (rw (s, set-drop d k (48 + x % 10) (omega arith), digits_more k x (drop (suc k) d) e))
+      sym (rw (s, drop-set d k (48 + x % 10) (omega arith), add-one k, digits_more k x (drop (suc k) d) e))
 
   pub no_digit : (k : ℕ) → k ≤ 0 → Listing.digits k x (drop k d) ≡ drop k d
   no_digit zero h = digits-none x d

@@ -1,28 +1,15 @@
 -- Lower and finish, where they do not refuse: the tables hold the tree's machine, and demand 3 holds of it.
 use Rattle.std.specs.Prelude.{◌≡◌, List, ℕ}
-use Rattle.rules.specs.Bits.{Res, ok}
+use Rattle.rules.specs.Bits.{ok}
 use Rattle.rules.specs.Tree.{Tree}
-use Rattle.rules.specs.Machine.{Machine}
 use Rattle.rules.specs.Parse.{parse}
 use Rattle.rules.specs.Tables.{Tables, Counts, countsOf, decode}
-use Rattle.rules.specs.Lowered.{Options, lowered, finished}
-use Rattle.rules.specs.Operations.{lower, finish}
+use Rattle.rules.specs.Lowered.{Options, finished}
+use Rattle.rules.specs.Operations.{finish}
 use Rattle.rules.specs.Demand.{Demand}
 use Rattle.walks.specs.DemandProof.{demand3}
-use Rattle.machines.specs.Back.{Built, built}
-use Rattle.machines.specs.TreeFits.{lowered-fit, finished-fit}
-
-pub record Lowers (o : Options) (s : List ℕ) (l : Tables) (u : Counts) : Type 0 where
-  pub tree : Tree
-  pub parsed : parse s ≡ ok tree
-  pub counts : u ≡ countsOf (lowered o tree)
-  pub machine : decode (lower o s l).1 u ≡ ok (lowered o tree)
-
-pub lowers : (o : Options) (s : List ℕ) (l : Tables) (u : Counts) → (lower o s l).0 ≡ ok u → Lowers o s l u
-unfolding lower
-lowers o s l u e =
-    let b = built (lowered o) (lowered-fit o) s l u e in
-    record { tree = b.tree; parsed = b.parsed; counts = b.counts; machine = b.machine }
+use Rattle.machines.specs.Back.{built}
+use Rattle.machines.specs.TreeFits.{finished-fit}
 
 -- The words that finish leaves read as the finished machine of the tree; both walks agree on every list of outcomes.
 pub record Finishes (o : Options) (s : List ℕ) (l : Tables) (u : Counts) : Type 0 where

@@ -1,13 +1,12 @@
 -- What the proof of demand 3 claims on the way: of any script that is read, and the sections that are made of it.
-use Rattle.std.specs.Prelude.{◌≡◌, ◌↔◌, List, [], ◌∷◌, map, ℕ, ◌<◌, length, get_or}
+use Rattle.std.specs.Prelude.{◌≡◌, ◌↔◌, List, map, ℕ, ◌<◌, length, get_or}
 use Rattle.std.proofs.Math.Option.{none}
 use Rattle.bounds.specs.Good.{GoodTree, GoodWhole, SectGood}
-use Rattle.rules.specs.Instr.{Instruction, shown}
-use Rattle.rules.specs.Machine.{SectionOrLine, unfixed, section, line, SectionCode, absent}
+use Rattle.rules.specs.Instr.{Instruction}
+use Rattle.rules.specs.Machine.{SectionCode, absent}
 use Rattle.rules.specs.Walk.{Ask, atJump, atGoto, ask, lost, End, more, over, walkSections, enters}
 use Rattle.rules.specs.Combine.{pair}
-use Rattle.rules.specs.Script.{Stmts, nil, plain, goto, ite, Script}
-use Rattle.rules.specs.Assemble.{condJump}
+use Rattle.rules.specs.Script.{Script}
 use Rattle.rules.specs.ReadScript.{readScript}
 use Rattle.rules.specs.Demand.{Walk, Meets, Stops, SameWalk, All, prune}
 

@@ -1,19 +1,14 @@
 -- Cleaning keeps the walk of a machine that never comes to an unfixed section.
-use Rattle.std.specs.Prelude.{◌≡◌, ◌≢◌, ◌⊎◌, Bool, true, false, cond, List, [], ◌∷◌, ◌++◌, map, ℕ, zero, suc, pred, ◌+◌, ◌%◌, ◌≤◌, ◌<◌, length, get_or, take}
+use Rattle.std.specs.Prelude.{◌≡◌, List, ℕ, zero, suc, ◌%◌, ◌<◌, get_or}
 use Rattle.std.proofs.Math.Path.{refl, ap}
-use Rattle.std.proofs.Common.{sym, ap₂, ◌∙◌, subst, inl, inr, append_assoc, le_of_suc-le-suc, not-suc-le-zero, mod-lt, arith}
-use Rattle.std.proofs.Math.ListN.{get_or-map}
+use Rattle.std.proofs.Common.{sym, ◌∙◌, mod-lt}
 use Rattle.machines.specs.Ranks.{IsFixedAt, rank-low, at-rank}
 use Rattle.rules.specs.Instr.{Instruction}
-use Rattle.rules.specs.Machine.{SectionOrLine, unfixed, section, line, SectionCode, absent, isFixed}
-use Rattle.rules.specs.Walk.{Halt, lost, Step, to, done, End, more, over, Leg, pre, onto, run, State, Trace, through, enter, stepSection, walkSections}
-use Rattle.rules.specs.Clean.{ren, keep, rank, cleanSections}
+use Rattle.rules.specs.Machine.{SectionOrLine, unfixed, section, line, SectionCode, absent}
+use Rattle.rules.specs.Walk.{lost, Step, to, done, over, Leg, pre, onto, run, State, enter, stepSection, walkSections}
+use Rattle.rules.specs.Clean.{rank, cleanSections}
 use Rattle.walks.specs.Claim.{Safe}
-use Rattle.walks.specs.Walks.{Within}
 use Rattle.walks.specs.Renumber.{mapRes, mapLeg, enter-ren}
-use Rattle.joins.specs.Along.{Fixed, fixed-map, Ready}
-use Rattle.walks.specs.CombineWalk.{Kept}
-use Rattle.laws.specs.Lists.{not-both}
 
 module _ (L : ℕ) (pos : 0 < L) (m : List SectionCode) (fixed-lines : (t : ℕ) → t < L → IsFixedAt m t) where
   step-clean : (t : ℕ) (os : List ℕ) → IsFixedAt m t → stepSection (cleanSections m) L (rank m t, os) ≡ mapLeg (rank m) (stepSection m L (t, os))

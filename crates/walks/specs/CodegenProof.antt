@@ -6,13 +6,13 @@ use Rattle.std.proofs.Common.{◌∙◌, subst, arith}
 use Rattle.std.proofs.Math.Bool.{true, false}
 use Rattle.std.proofs.Math.Option.{Option, none, some}
 use mathlib.Core.List.{List, [], ◌∷◌, ◌++◌, append_assoc, append-nil}
-use Prim.Native.Nat.{ℕ, zero, suc, ◌+◌, ◌≤◌, ◌<◌}
+use Prim.Native.Nat.{ℕ, suc, ◌+◌}
 use Rattle.std.proofs.Math.ListN.{length, length-append}
 use Rattle.std.proofs.lemmas.List.{length-replicate, set_at, get_or_at}
 use Rattle.rules.specs.Instr.{Instruction}
 use Rattle.rules.specs.Machine.{SectionOrLine, unfixed, section, line, SectionCode, absent, isFixed}
-use Rattle.rules.specs.Script.{Stmts, nil, plain, goto, ite, Script, isNil}
-use Rattle.rules.specs.Assemble.{condJump, nextLine, orOne, sectionsMade, ownCode, entry, link, cond_code, inner, orEmpty, stmtSections, asStart, head_of, tailOf, lineSections, heads, tails, sectionsOf}
+use Rattle.rules.specs.Script.{Stmts, nil, plain, goto, ite, Script}
+use Rattle.rules.specs.Assemble.{condJump, nextLine, orOne, sectionsMade, ownCode, entry, cond_code, inner, orEmpty, stmtSections, asStart, head_of, tailOf, heads, tails, sectionsOf}
 use Rattle.bounds.specs.Lengths.{length-low, length-orEmpty, length-tailOf}
 use Rattle.walks.specs.Codegen.{Ends, push, with_next, withIns, setNext, addIns, setEnd, reduce, linkUp, thenDone, elseDone, thenPart, elsePart, join, gen, swap, lineDone, fixLine, genLines, codegen}
 

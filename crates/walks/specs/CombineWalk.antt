@@ -1,23 +1,22 @@
 -- Combining keeps the walk.
 use Rattle.std.proofs.Math.Path.{◌≡◌, refl, sym, ap, subst}
-use Rattle.std.proofs.Common.{ap₂, ◌∙◌, inl, inr, le_of_suc-le-suc, not-suc-le-zero, mod-lt, arith, get_or-set_other}
-use Rattle.std.specs.Prelude.{◌≢◌, ◌⊎◌, Bool, cond, not, ◌&&◌, length, set, ltb}
+use Rattle.std.proofs.Common.{◌∙◌, inl, mod-lt, arith, get_or-set_other}
+use Rattle.std.specs.Prelude.{Bool, cond, length}
 use Rattle.std.proofs.Math.Bool.{true, false}
 use Rattle.std.proofs.Math.Option.{Option, none, some}
-use mathlib.Core.List.{List, [], ◌∷◌, ◌++◌, map, append_assoc}
-use Prim.Native.Nat.{ℕ, zero, suc, pred, ◌+◌, ◌%◌, ◌≤◌, ◌<◌}
-use Rattle.std.proofs.Math.ListN.{get_or, length-set, get_or-map, get_or-eq_default}
-use Rattle.std.proofs.lemmas.List.{length-map}
+use mathlib.Core.List.{List, [], ◌∷◌, ◌++◌}
+use Prim.Native.Nat.{ℕ, zero, suc, ◌+◌, ◌%◌, ◌≤◌, ◌<◌}
+use Rattle.std.proofs.Math.ListN.{get_or}
 use Rattle.std.proofs.Math.Seq.{get_or-set_same}
 use Rattle.std.proofs.Math.Dec.{eqb}
-use borrow.Author.Tests.{ltb-true, ltb-false, eqb-true, eqb-false, lt-ltb, le-ltb, eq-eqb, ne_eqb}
+use borrow.Author.Tests.{eqb-true, eqb-false}
 use Rattle.rules.specs.Instr.{fall, Instruction, isJump, shown}
 use Rattle.rules.specs.Machine.{SectionOrLine, unfixed, section, line, SectionCode, absent, isFixed}
-use Rattle.rules.specs.Walk.{walkSections, Ask, atJump, atGoto, Halt, ask, lost, Step, to, done, Leg, pre, State, Trace, run, follow, inside, through, enter, stepSection, across}
-use Rattle.rules.specs.Clean.{renIns, renNext, ren}
-use Rattle.rules.specs.Combine.{refsNext, refsCode, refs, mayTake, mate, pairFrom, pair, without, hit, joined, combineAt, combineFuel, combineSections, refsIns}
-use Rattle.walks.specs.Walks.{Goes, Halts, goes_step, halts-step, Match, m-to, m-done, covers, Covers, Within, within-trans, covers-within, covers-back}
-use Rattle.walks.specs.Renumber.{mapRes, mapLeg, enter-ren, inside-append, inside-ext, Plays, plays-step, plays-then, Avoids}
+use Rattle.rules.specs.Walk.{walkSections, Step, to, done, Leg, pre, State, run, follow, inside, through, enter, stepSection, across}
+use Rattle.rules.specs.Clean.{ren}
+use Rattle.rules.specs.Combine.{refsNext, refsCode, pair, hit, combineAt, combineFuel, combineSections}
+use Rattle.walks.specs.Walks.{goes_step, Match, m-to, m-done, covers, Covers, Within, within-trans, covers-within, covers-back}
+use Rattle.walks.specs.Renumber.{mapLeg, enter-ren, inside-append, inside-ext, Plays, plays-step, plays-then, Avoids}
 use Rattle.laws.specs.Lists.{not-both}
 use Rattle.joins.specs.Numbers.{fall-low}
 use Rattle.joins.specs.References.{no-hit}

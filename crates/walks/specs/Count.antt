@@ -1,14 +1,13 @@
 -- Whether a reading meets n instructions can be told: a line that meets nothing and asks nothing is always so, and a reading that passes
 -- only such lines goes round for ever. So 'both meet the same first n, or both fewer' needs no excluded middle.
-use Rattle.std.specs.Prelude.{◌≡◌, refl, ◌⊎◌, Bool, true, false, cond, List, [], ◌∷◌, ◌++◌, ℕ, zero, suc, ◌+◌, ◌-◌, ◌%◌, ◌≤◌, ◌<◌, length, get_or, take, eqb}
-use Rattle.std.proofs.Common.{sym, ap, ap₂, ◌∙◌, subst, inl, inr, le_of_suc-le-suc, not-suc-le-zero, mod-lt, arith, length-append, length-take, length-take-le, eqb-true}
-use Rattle.std.proofs.lemmas.Bool.{eqb-false}
+use Rattle.std.specs.Prelude.{◌≡◌, refl, ◌⊎◌, Bool, true, false, List, [], ◌∷◌, ◌++◌, ℕ, zero, suc, ◌+◌, ◌-◌, ◌%◌, ◌≤◌, ◌<◌, length, get_or, take, eqb}
+use Rattle.std.proofs.Common.{sym, ap, ◌∙◌, subst, inl, inr, mod-lt, arith, length-append, length-take, length-take-le, eqb-true}
 use Rattle.rules.specs.Instr.{Instruction, isJump, shown}
-use Rattle.rules.specs.Walk.{Ask, Halt, ask, Step, to, done, End, more, over, Leg, pre, onto, run, State, Trace}
+use Rattle.rules.specs.Walk.{Halt, ask, to, done, Leg, onto, run, State}
 use Rattle.rules.specs.Script.{Stmts, nil, plain, goto, ite, Script}
 use Rattle.rules.specs.Assemble.{condJump, nextLine}
 use Rattle.rules.specs.ReadScript.{Out, behind, erred, gone, stop, thenOn, and_then, readOwn, readGoto, readIf, readCond, read, onward, stepLine, readScript, readIns}
-use Rattle.rules.specs.Demand.{Walk, Meets, Fewer, SameFirst}
+use Rattle.rules.specs.Demand.{Walk, Meets, SameFirst}
 use Rattle.walks.specs.Claim.{Alike}
 use Rattle.joins.specs.Numbers.{lt-or-le}
 use Rattle.bounds.specs.Lengths.{nextLine-lt}

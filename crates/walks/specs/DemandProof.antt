@@ -1,36 +1,33 @@
 -- Demand 3 of every tree that is parsed.
 use Rattle.std.specs.Prelude.{◌≡◌, get_or}
-use Rattle.std.proofs.Math.Path.{refl, ap}
-use Rattle.std.proofs.Common.{sym, ◌∙◌, subst, arith}
-use mathlib.Core.List.{List, [], ◌∷◌, map}
-use Prim.Native.Nat.{ℕ, suc, ◌+◌, ◌≤◌, ◌<◌}
+use Rattle.std.proofs.Math.Path.{ap}
+use Rattle.std.proofs.Common.{arith}
+use mathlib.Core.List.{List}
+use Prim.Native.Nat.{ℕ, ◌<◌}
 use Rattle.std.proofs.Math.ListN.{length}
-use Rattle.rules.specs.Instr.{Instruction}
-use Rattle.rules.specs.Tree.{Tree, ofLines}
-use Rattle.rules.specs.Machine.{SectionOrLine, unfixed, section, line, SectionCode, absent, Machine}
+use Rattle.rules.specs.Tree.{Tree}
+use Rattle.rules.specs.Machine.{SectionOrLine, unfixed, section, line, absent}
 use Rattle.rules.specs.Tables.{Counts, countsOf}
 use Rattle.rules.specs.Script.{Script}
 use Rattle.rules.specs.CodegenData.{CodegenData}
-use Rattle.rules.specs.Annotate.{annotate}
 use Rattle.rules.specs.Assemble.{sectionsOf}
-use Rattle.rules.specs.Replace.{Regs, replaceSections, replaced}
+use Rattle.rules.specs.Replace.{Regs, replaceSections}
 use Rattle.rules.specs.Reading.{repScript, script, reading}
-use Rattle.rules.specs.Clean.{cleanSections, cleaned}
-use Rattle.rules.specs.Combine.{combineSections, combined}
-use Rattle.rules.specs.Lowered.{Options, spans, texts, assemble, lowered, finished}
+use Rattle.rules.specs.Clean.{cleanSections}
+use Rattle.rules.specs.Combine.{combineSections}
+use Rattle.rules.specs.Lowered.{Options, finished}
 use Rattle.rules.specs.Walk.{walk, enters, entered}
 use Rattle.rules.specs.Demand.{All, Demand, RegistersBelow, GotoBelow}
 use Rattle.walks.specs.Claim.{Demand3}
-use Rattle.bounds.specs.Good.{SectGood, NextGood, CodeGood, GoodWhole}
-use Rattle.bounds.specs.ReplaceScript.{lower-rep, length-rep}
-use Rattle.bounds.specs.Room.{Room, roomOf, Went}
-use Rattle.bounds.specs.Own.{Whole, whole-grows, MadeAll, annotate-made}
-use Rattle.bounds.specs.Quiet.{script-quiet, script-good, tree-good}
+use Rattle.bounds.specs.Good.{SectGood, NextGood, GoodWhole}
+use Rattle.bounds.specs.Room.{Room, roomOf}
+use Rattle.bounds.specs.Own.{Whole, whole-grows, annotate-made}
+use Rattle.bounds.specs.Quiet.{script-good, tree-good}
 use Rattle.walks.specs.FinishWalk.{demand3-replaced}
 use Rattle.laws.specs.Lists.{all-map}
 use Rattle.bounds.specs.Lengths.{length-spans}
 use Rattle.bounds.specs.Stay as Stay
-use Rattle.rules.specs.Bits.{Res, ok}
+use Rattle.rules.specs.Bits.{ok}
 use Rattle.rules.specs.Parse.{parse}
 use Rattle.bounds.specs.Parsed.{some-line}
 

@@ -1,6 +1,6 @@
 -- Demand 3 of any script that has a line.
-use Rattle.std.specs.Prelude.{◌≡◌, refl, ℕ, ◌<◌, length, get_or}
-use Rattle.std.proofs.Common.{sym, ap, ◌∙◌, inl, arith}
+use Rattle.std.specs.Prelude.{◌≡◌, ℕ, ◌<◌, length, get_or}
+use Rattle.std.proofs.Common.{sym, ap, inl, arith}
 use Rattle.std.proofs.Math.Path.{subst}
 use mathlib.Core.List.{List, map}
 use Rattle.std.proofs.Math.Option.{none}
@@ -21,8 +21,6 @@ use Rattle.joins.specs.Along.{Ready, combine-ends}
 use Rattle.walks.specs.CombineWalk.{Kept, combine-keeps}
 use Rattle.walks.specs.CleanWalk.{clean-same}
 use Rattle.machines.specs.Ranks.{clean_ready}
-use Rattle.walks.specs.Codegen.{codegen}
-use Rattle.walks.specs.CodegenProof.{codegen-is}
 use Rattle.rules.specs.Replace.{Regs, replaceSections}
 use Rattle.rules.specs.Reading.{repScript}
 use Rattle.bounds.specs.ReplaceScript.{length-rep, lower-rep}
@@ -104,11 +102,6 @@ module _ (t : Script) (pos : 0 < length t) where
         behindGoto = record { firsts = agree (map prune t) (omega (arith, length-map t prune)) os (walkSections (finish t) (length t) os) (same-pruned os); stops = (same-pruned os).stops };
         noPair = finished;
       }
-
-  -- The same of the machine that codegen.rs's steps make, cleaned and combined.
-  pub demand3-codegen : (os : List ℕ) → Demand3 (length t) t (combineSections (cleanSections (codegen t))) os
-  unfolding finish
-  demand3-codegen os = subst (λ (m : List SectionCode). Demand3 (length t) t (combineSections (cleanSections m)) os) (sym (codegen-is t)) (demand3 os)
 
 -- With replacement between: the machine is yogi's (codegen, replacement, cleaning, combining), and the script that is read is the script with
 -- its instructions replaced by the same rules, in the same order, and with nothing out of a machine.

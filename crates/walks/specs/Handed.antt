@@ -14,7 +14,7 @@ use Rattle.rules.specs.Walk.{walk, walkSections}
 use Rattle.walks.specs.Claim.{Alike}
 use Rattle.walks.specs.Walks.{same-walk}
 use Rattle.bounds.specs.Parsed.{refused≢ok}
-use Rattle.laws.specs.Lists.{not-both}
+use Rattle.laws.specs.Lists.{not-both, both}
 use Rattle.joins.specs.Along.{Fixed, Ready, combine-ends}
 use Rattle.walks.specs.CombineWalk.{combine-keeps}
 
@@ -28,11 +28,6 @@ pub record Combines (t : Tables) (u v : Counts) : Type 0 where
   pub noPair : pair (combined machine).sections ≡ none
 
 -- ---- what the rules grant
-
-both : (a b : Bool) → a && b ≡ true → (a ≡ true) × (b ≡ true)
-both true true e = (refl, refl)
-both true false e = absurd (not-both false e refl)
-both false b e = absurd (not-both false e refl)
 
 -- what is asked of a section's word, without and with its start
 abbrev plainFits : Counts → ℕ → ℕ → Bool
@@ -107,17 +102,13 @@ begins t u = go (fits t u) refl
 
 -- ---- the call
 
-value : {A : Type 0} → A → Res A → A
-value a (refused n) = a
-value a (ok b) = b
-
 combine-fixed : (t : Tables) (m r : Machine) → combineIn t m ≡ ok r → (Fixed m.sections) × (combined m ≡ r)
-unfolding combineIn value
+unfolding combineIn
 combine-fixed t m r e = first (allb fixedHere m.sections) refl e
   where
     then : (b : Bool) → elim b [ false ↦ refused Refusal.linksBack | true ↦ ok (combined m) ] ≡ ok r → combined m ≡ r
     then false q = absurd (refused≢ok Refusal.linksBack r q)
-    then true q = ap (value r) q
+    then true q = cc
 
     first : (b : Bool) → allb fixedHere m.sections ≡ b → elim b [ false ↦ refused Refusal.isUnfixed | true ↦ elim (allAhead m.sections 0 m.sections) [ false ↦ refused Refusal.linksBack | true ↦ ok (combined m) ] ] ≡ ok r → (Fixed m.sections) × (combined m ≡ r)
     first false p q = absurd (refused≢ok Refusal.isUnfixed r q)
@@ -138,7 +129,7 @@ module _ (t : Tables) (u : Counts) where
 
 -- Combine, where it does not refuse.
 pub combines : (t : Tables) (u v : Counts) → (combine t u).0 ≡ ok v → Combines t u v
-unfolding walk combined value
+unfolding walk combined
 combines t u v e = from (decode t u) refl (begins t u)
   where
     kept : (m r : Machine) → decode t u ≡ ok m → Begins (ok m) → combineIn t m ≡ ok r → Combines t u v
@@ -150,7 +141,7 @@ combines t u v e = from (decode t u) refl (begins t u)
         record {
           machine = m;
           decoded = p;
-          counts = sym (ap (value v) (sym (ap (λ (x : Res Counts × Tables). x.0) w) ∙ e));
+          counts = let a : ok v ≡ ok (countsOf (combined m)) = sym e ∙ ap (λ (x : Res Counts × Tables). x.0) w in cc;
           words = ap (λ (x : Res Counts × Tables). x.1) w;
           same = λ os. same-walk (walkSections (combineSections m.sections) m.lines os) (walkSections m.sections m.lines os) (k.back os) (k.there os);
           noPair = combine-ends m.sections;

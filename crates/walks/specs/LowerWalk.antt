@@ -1,25 +1,22 @@
 -- The lowered machine's walk is the tree's.
-use Rattle.std.specs.Prelude.{◌≡◌, ◌≢◌, ◌⊎◌, Bool, false, cond, ℕ, zero, suc, pred, ◌+◌, ◌%◌, ◌≤◌, ◌<◌, length, eqb}
+use Rattle.std.specs.Prelude.{◌≡◌, Bool, false, cond, ℕ, zero, suc, ◌+◌, ◌%◌, ◌<◌, length}
 use Rattle.std.proofs.Math.Path.{refl, ap, ap₂, subst}
-use Rattle.std.proofs.Common.{sym, ◌∙◌, inl, inr, le_of_suc-le-suc, not-suc-le-zero, arith, length-append, eqb-true}
+use Rattle.std.proofs.Common.{sym, ◌∙◌, arith}
 use Rattle.std.proofs.Math.Bool.{true}
-use mathlib.Core.List.{List, [], ◌∷◌, ◌++◌, map, append_assoc, append-nil}
+use mathlib.Core.List.{List, [], ◌∷◌, ◌++◌, append_assoc}
 use Rattle.std.proofs.Math.Nat.{mod-lt}
-use Rattle.std.proofs.Math.ListN.{get_or, get_or-append}
-use Rattle.std.proofs.Math.Seq.{get_or-append-add}
-use Rattle.std.proofs.lemmas.Bool.{eqb-false}
-use Rattle.bounds.specs.Lengths.{length-low, length-orEmpty, length-tailOf, nextLine-lt}
+use Rattle.std.proofs.Math.ListN.{get_or}
+use Rattle.bounds.specs.Lengths.{length-low, length-orEmpty, nextLine-lt}
 use Rattle.machines.specs.Lowered.{SameAs, Stands, fits-cast, fits-left, fits-right, base, line-fits, at_head, fits-tail}
 use Rattle.rules.specs.Instr.{Instruction, isJump, shown, aimed}
-use Rattle.rules.specs.Machine.{SectionOrLine, unfixed, section, line, SectionCode, absent, isFixed}
-use Rattle.rules.specs.Walk.{Ask, atJump, atGoto, Halt, ask, lost, Step, to, done, End, more, over, Leg, pre, onto, run, State, Trace, follow, inside, through, enter, stepSection, walkSections, across}
+use Rattle.rules.specs.Machine.{SectionOrLine, section, line, SectionCode, absent}
+use Rattle.rules.specs.Walk.{Ask, atJump, atGoto, Halt, ask, lost, Step, to, done, more, over, Leg, pre, onto, run, State, Trace, follow, inside, through, enter, stepSection, walkSections, across}
 use Rattle.rules.specs.Script.{Stmts, nil, plain, goto, ite, Script, isNil}
-use Rattle.rules.specs.Assemble.{condJump, nextLine, orOne, sectionsMade, ownCode, entry, link, cond_code, inner, orEmpty, stmtSections, asStart, head_of, tailOf, lineSections, heads, tails, sectionsOf}
+use Rattle.rules.specs.Assemble.{condJump, nextLine, orOne, sectionsMade, ownCode, entry, cond_code, inner, orEmpty, stmtSections, head_of, tailOf, sectionsOf}
 use Rattle.rules.specs.ReadScript.{Out, behind, erred, gone, stop, thenOn, and_then, readOwn, readGoto, readIf, readCond, read, onward, stepLine, readScript, readIns}
 use Rattle.walks.specs.Claim.{Safe}
 use Rattle.walks.specs.Walks.{Goes, Halts, goes-here, goes_step, halts-step, goes-goes, goes-halts, Match, m-to, m-done, covers, Covers}
 use Rattle.walks.specs.Renumber.{inside-append}
-use Rattle.laws.specs.Lists.{not-both}
 use Rattle.bounds.specs.Jumps.{shown-aimed}
 
 -- ---- a list's reading, followed by the machine

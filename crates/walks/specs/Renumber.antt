@@ -1,12 +1,11 @@
 -- What renumbering does to a step of the machine.
-use Rattle.std.specs.Prelude.{◌≡◌, refl, ◌≢◌, Bool, true, false, cond, List, [], ◌∷◌, ◌++◌, map, ℕ, zero, suc, pred, ◌+◌, ◌%◌, ◌≤◌, ◌<◌, length, get_or}
-use Rattle.std.proofs.Common.{sym, ap, ap₂, ◌∙◌, subst, append_assoc, le_of_suc-le-suc, not-suc-le-zero, mod-lt, arith}
-use Rattle.rules.specs.Instr.{Instruction, isJump, aimed, shown}
-use Rattle.rules.specs.Machine.{SectionOrLine, unfixed, section, line, SectionCode, absent, isFixed}
-use Rattle.rules.specs.Walk.{Ask, atJump, atGoto, Halt, ask, lost, Step, to, done, Leg, pre, State, follow, inside, enter, through, stepSection, across}
+use Rattle.std.specs.Prelude.{◌≡◌, refl, Bool, true, false, cond, List, [], ◌∷◌, ◌++◌, map, ℕ, zero, suc, ◌%◌}
+use Rattle.std.proofs.Common.{sym, ap, ◌∙◌}
+use Rattle.rules.specs.Instr.{Instruction, isJump, shown}
+use Rattle.rules.specs.Machine.{SectionOrLine, unfixed, section, line, SectionCode}
+use Rattle.rules.specs.Walk.{Step, to, done, Leg, pre, State, follow, inside, enter, through, across}
 use Rattle.rules.specs.Clean.{renIns, renNext, ren}
-use Rattle.rules.specs.Combine.{without}
-use Rattle.walks.specs.Walks.{Goes, Halts, goes_step, halts-step, goes-goes, goes-halts, Match, m-to, m-done}
+use Rattle.walks.specs.Walks.{Goes, Halts, goes_step, halts-step, goes-goes, goes-halts}
 use Rattle.bounds.specs.Jumps.{shown-aimed}
 
 abbrev pub mapRes : (ℕ → ℕ) → Step State → Step State

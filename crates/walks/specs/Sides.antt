@@ -1,15 +1,15 @@
 -- The other parts of demand 3: the sections entered, the registers, and what stands behind a goto.
-use Rattle.std.specs.Prelude.{◌≡◌, ◌⊎◌, Bool, true, false, cond, get_or}
+use Rattle.std.specs.Prelude.{◌≡◌, ◌⊎◌, Bool, true, false, get_or}
 use Rattle.std.proofs.Math.Path.{refl}
-use Rattle.std.proofs.Common.{sym, ap, ap₂, ◌∙◌, subst, inl, inr, arith}
-use mathlib.Core.List.{List, [], ◌∷◌, ◌++◌, map}
-use Prim.Native.Nat.{ℕ, zero, suc, ◌+◌, ◌%◌, ◌≤◌, ◌<◌}
+use Rattle.std.proofs.Common.{sym, ap, ◌∙◌, subst, inl, inr}
+use mathlib.Core.List.{List, [], ◌∷◌, map}
+use Prim.Native.Nat.{ℕ, zero, suc, ◌%◌, ◌≤◌, ◌<◌}
 use Rattle.std.proofs.Math.ListN.{length, get_or-map, get_or-eq_default}
 use Rattle.std.proofs.lemmas.List.{length-map}
 use Rattle.rules.specs.Instr.{Instruction, isJump, shown}
-use Rattle.rules.specs.Machine.{SectionOrLine, unfixed, section, line, SectionCode, absent}
-use Rattle.rules.specs.Walk.{Ask, atJump, atGoto, Halt, ask, lost, Step, to, done, End, more, over, Leg, pre, onto, run, State, Trace, enter, stepSection, enters, walkSections}
-use Rattle.rules.specs.Script.{Stmts, nil, plain, goto, ite, Script, isNil}
+use Rattle.rules.specs.Machine.{SectionCode, absent}
+use Rattle.rules.specs.Walk.{atJump, atGoto, lost, Step, to, done, over, Leg, pre, onto, run, State, Trace, enter, stepSection, enters, walkSections}
+use Rattle.rules.specs.Script.{Stmts, nil, plain, goto, ite, Script}
 use Rattle.rules.specs.Assemble.{condJump, nextLine}
 use Rattle.rules.specs.ReadScript.{Out, behind, erred, gone, stop, thenOn, and_then, readOwn, readGoto, readIf, readCond, read, onward, stepLine, readScript, readIns}
 use Rattle.rules.specs.Demand.{Walk, All, prune}
@@ -17,6 +17,7 @@ use Rattle.walks.specs.Claim.{Safe, GoodEnd}
 use Rattle.bounds.specs.Good.{CodeGood, Good, GoodTree}
 use Rattle.walks.specs.Walks.{Below, Within}
 use Rattle.joins.specs.Numbers.{lt-or-le}
+use Rattle.laws.specs.Lists.{all-append, all-left}
 
 -- ---- a safe walk enters sections of the machine only
 
@@ -47,12 +48,6 @@ module _ (m : List SectionCode) (L : ℕ) where
   safe-enters os safe k = enters-in k (0, os) safe
 
 -- ---- what stands behind a goto is not read
-
-prune-nil : (s : Stmts) → isNil (prune s) ≡ isNil s
-prune-nil nil = refl
-prune-nil (plain o s) = refl
-prune-nil (goto o r s) = refl
-prune-nil (ite o c t u s) = refl
 
 then-ext : (x : List Instruction × Out) (f g : List ℕ → List Instruction × Out) → ((os : List ℕ) → f os ≡ g os) → and_then x f ≡ and_then x g
 then-ext x f g h = go x.1
@@ -104,14 +99,6 @@ run-prune t (suc k) s =
 -- ---- what is met comes from the tree
 
 module _ (P : Instruction → Type 0) (G : ℕ → Type 0) where
-  all_append : (a b : List Instruction) → All P a → All P b → All P (a ++ b)
-  all_append [] b p q = q
-  all_append (i ∷ a) b p q = (p.0, all_append a b p.1 q)
-
-  all_left : (a b : List Instruction) → All P (a ++ b) → All P a
-  all_left [] b p = tt
-  all_left (i ∷ a) b p = (p.0, all_left a b p.1)
-
   -- A reading's own part: what it met, and the register if it stopped at a goto.
   abbrev OkOut : Out → Type 0
   OkOut (behind os) = Unit {0}
@@ -124,7 +111,7 @@ module _ (P : Instruction → Type 0) (G : ℕ → Type 0) where
   Ok x = All P x.0 × OkOut x.1
 
   ok-then : (f : List ℕ → List Instruction × Out) → ((os : List ℕ) → Ok (f os)) → (l : List Instruction) (o : Out) → All P l → OkOut o → Ok (thenOn l o f)
-  ok-then f h l (behind os) p q = (all_append l (f os).0 p (h os).0, (h os).1)
+  ok-then f h l (behind os) p q = (all-append P l (f os).0 p (h os).0, (h os).1)
   ok-then f h l (erred os) p q = (p, q)
   ok-then f h l (gone n os) p q = (p, q)
   ok-then f h l (stop a) p q = (p, q)
@@ -175,9 +162,9 @@ module _ (P : Instruction → Type 0) (G : ℕ → Type 0) where
 
   module _ (t : Script) (good : GoodTree P G t) where
     ok-onto : (F : State → Trace) → ((s : State) → OkTrace (F s)) → (i : ℕ) (l : List Instruction) (o : Out) → All P l → OkOut o → OkTrace (onto F l (onward (length t) i o))
-    ok-onto F h i l (behind os) p q = let s : State = (nextLine (length t) i, os) in (all_append l (F s).0 p (h s).0, (h s).1)
-    ok-onto F h i l (erred os) p q = let s : State = (nextLine (length t) i, os) in (all_append l (F s).0 p (h s).0, (h s).1)
-    ok-onto F h i l (gone n os) p q = let s : State = (n % length t, os) in (all_append l (F s).0 p (h s).0, (h s).1)
+    ok-onto F h i l (behind os) p q = let s : State = (nextLine (length t) i, os) in (all-append P l (F s).0 p (h s).0, (h s).1)
+    ok-onto F h i l (erred os) p q = let s : State = (nextLine (length t) i, os) in (all-append P l (F s).0 p (h s).0, (h s).1)
+    ok-onto F h i l (gone n os) p q = let s : State = (n % length t, os) in (all-append P l (F s).0 p (h s).0, (h s).1)
     ok-onto F h i l (stop (atJump w)) p q = (p, tt)
     ok-onto F h i l (stop (atGoto r)) p q = (p, q)
 
@@ -199,4 +186,4 @@ module _ (P : Instruction → Type 0) (G : ℕ → Type 0) where
         go (inl e) = subst OkTrace e (ok-run (h k).0 (0, os))
         go (inr (m, (x, e))) =
             let q = ok-run (h k).0 (0, os) in
-            (all_left (w k).0 x (subst (All P) e q.0), subst (GoodEnd G) (sym m) tt)
+            (all-left P (w k).0 x (subst (All P) e q.0), subst (GoodEnd G) (sym m) tt)

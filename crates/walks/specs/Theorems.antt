@@ -2,10 +2,10 @@
 -- `Combines` (Handed) say it of the calls finish and combine themselves.
 use Rattle.std.specs.Prelude.{◌≡◌, true, ℕ, suc, ◌<◌, length}
 use Rattle.std.proofs.Math.Path.{sym, ap₂, subst}
-use Rattle.std.proofs.Common.{ap, ◌∙◌}
+use Rattle.std.proofs.Common.{◌∙◌}
 use Rattle.std.proofs.Math.Option.{none}
 use mathlib.Core.List.{List, []}
-use Rattle.rules.specs.Bits.{Res, ok}
+use Rattle.rules.specs.Bits.{ok}
 use Rattle.rules.specs.Tree.{Tree}
 use Rattle.rules.specs.Parse.{parse}
 use Rattle.rules.specs.Machine.{SectionCode}

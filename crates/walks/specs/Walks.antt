@@ -1,9 +1,9 @@
 -- Walks of any kind: what one walk says of another.
-use Rattle.std.specs.Prelude.{◌≡◌, refl, ◌⊎◌, ◌↔◌, List, [], ◌∷◌, ◌++◌, ℕ, zero, suc, ◌+◌, ◌≤◌, ◌<◌, min, length, take}
-use Rattle.std.proofs.Common.{sym, ap, ap₂, ◌∙◌, subst, inl, inr, ⊎_elim, append_assoc, append-nil, le_of_suc-le-suc, not-suc-le-zero, zero-add, suc-add, arith, length-take}
+use Rattle.std.specs.Prelude.{◌≡◌, refl, ◌⊎◌, List, [], ◌++◌, ℕ, zero, suc, ◌+◌, ◌≤◌, length, take}
+use Rattle.std.proofs.Common.{sym, ap, ◌∙◌, subst, inl, inr, append_assoc, le_of_suc-le-suc, not-suc-le-zero, zero-add, suc-add, arith, length-take}
 use Rattle.std.proofs.lemmas.List.{take-append-le}
 use Rattle.rules.specs.Instr.{Instruction}
-use Rattle.rules.specs.Walk.{Ask, Halt, ask, lost, Step, to, done, End, more, over, Leg, Trace, pre, onto, run}
+use Rattle.rules.specs.Walk.{Ask, Halt, ask, lost, Step, to, done, more, over, Leg, Trace, pre, onto, run}
 use Rattle.rules.specs.Demand.{Walk, Meets, Stops}
 use Rattle.walks.specs.Claim.{Safe, Alike}
 

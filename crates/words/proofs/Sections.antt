@@ -1,12 +1,6 @@
 -- A section's word, over plain variables. Assumes nothing.
-use mathlib.Core.Path.{◌≡◌, ap}
 use Prim.Native.Nat.{ℕ, ◌<◌}
-use borrow.Author.Tests.{eq-eqb, ne_eqb}
-use Rattle.rules.specs.Bits.{isOne}
-use Rattle.rules.specs.Constants.{mark}
-use Rattle.rules.specs.Word.{Run, wordRun}
-use Rattle.rules.specs.Machine.{unfixed, section, line}
-use Rattle.rules.specs.Tables.{successOf}
+use Rattle.rules.specs.Word.{wordRun}
 use Rattle.laws.specs.SectionWord.{flag-lt, kind-lt}
 use Rattle.laws.specs.Words.{run_small}
 
