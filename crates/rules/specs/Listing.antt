@@ -89,7 +89,7 @@ unfoldable pub refusal : ℕ → List ℕ
 unfolding row nat
 refusal n = row 82 (nat n)
 
--- do the tables that finlist lends hold the estimates? strings, pool and names are lent as counted
+-- do the tables that finlist lends hold the estimates? strings, pool and names always do
 unfoldable pub fitsFinlist : Counts → Bool
 fitsFinlist u = leb u.sections finlistSections && leb u.instrs finlistInstrs && leb u.numbers finlistNumbers
 
