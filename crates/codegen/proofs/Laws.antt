@@ -21,7 +21,7 @@ use Rattle.rules.specs.Operators.{errorJump, getVariable, guard, incdecOp}
 use Rattle.words.specs.Told.{Shape}
 use Rattle.codegen.specs.declared.state.Counters.{Counters}
 use Rattle.codegen.specs.Does.{wordTo, regWord, Lent, lent, Base, Stands, Went, Does, DoesNone, DoesCode, DoesNums, ◌▷◌}
-use Rattle.codegen.specs.Costs.{Spent, plus-instr, plus-number, plus-string, guardCost}
+use Rattle.codegen.specs.Costs.{plus-instr, plus-number, plus-string, guardCost}
 use Rattle.codegen.proofs.Lists.{sets-start, sets_more, map-append, length-map, length_more, texts-more, spans-more, length-spans, name-read, name-stored, below-stored}
 
 -- ---- the two laws of all steps
@@ -214,9 +214,6 @@ module _ {c z : Counters} where
 
   pub num-does : {ns ns' : List ℤ} {v : ℕ} (x : ℤ) → v ≡ c.numbers → ns' ≡ set ns c.numbers x → z ≡ plus-number c → DoesNums (newNum x) c ns ns' v z
   num-does x q f e = rw (q, f, e) (record { does = numbered x })
-
-  pub str-spent : {h : ℕ} → z ≡ plus-string h c → Spent c z 0 0 0 1 h
-  str-spent e = rw e (omega arith)
 
   -- k is the register as an index, and the text is stored by others
   pub str-does : {n : ℕ} {is : List ℕ} {ns : List ℤ} {ss ps ps' ms : List ℕ} (x : List ℕ) {h k v w : ℕ} → v ≡ c.strings → z ≡ plus-string h c → k ≡ v → h ≡ length x

@@ -10,7 +10,7 @@ ghost use Rattle.rules.specs.Parse.{binops, unops};
 ghost use Rattle.rules.specs.CodegenData.{emit as emitS};
 ghost use Rattle.rules.specs.Operators.{copyValreg, makeTruthy, numberify as numberifyS, makeVal, makeLogicBinop, makeArithBinop, makeCmpBinop, makeNe, applyInPlace, applyBinop, makeNot, applyInNumber, applyUnop, incdecOp, codegenIncdec, guard};
 ghost use Rattle.words.specs.Told.{Shape};
-ghost use Rattle.codegen.specs.Does.{◌▷◌, DoesNone, DoesCode, DoesNums, DoesBoth, DoesNamed};
+ghost use Rattle.codegen.specs.Does.{◌▷◌, DoesCode, DoesBoth, DoesNamed};
 ghost use Rattle.codegen.specs.Costs.{Spent, Room, guardCost, binopCost, unopCost};
 ghost use Rattle.codegen.specs.Told.{binopTold, unopTold};
 

@@ -6,7 +6,7 @@
 
 pub mod leaves;
 
-ghost use Rattle.std.specs.Prelude.{◌≡◌, ℕ, ◌≤◌, length};
+ghost use Rattle.std.specs.Prelude.{ℕ, ◌≤◌, length};
 ghost use Rattle.rules.specs.Constants.{mostNames};
 ghost use Rattle.rules.specs.Tree.{Expr};
 ghost use Rattle.nodes.specs.Holds.{HoldsE};

@@ -14,7 +14,6 @@ ghost use Rattle.program.specs.Program.{optionsTold};
 use params::options::CodegenOptions;
 use passes::clean_and_combine;
 use tables::answer::Answer;
-use tables::counts::Counts;
 
 pub fn finish(
     tree: &[u8],

@@ -1,5 +1,4 @@
--- Lists of sections: their words and code, of one before others and of one list behind another; how many cleaning and replacement leave.
--- Assumes nothing.
+-- Lists of sections: their words and code, of one before others and of one run behind another; how many cleaning and replacement leave. Assumes nothing.
 use Rattle.std.specs.Prelude.{◌≡◌, refl, Bool, true, false, cond, List, [], ◌∷◌, ◌++◌, ℕ, suc, ◌+◌, ◌≤◌, length}
 use Rattle.std.proofs.Common.{ap, add-zero, add_assoc, append_assoc, arith, length-append}
 use Rattle.rules.specs.Word.{runWord}

@@ -9,7 +9,7 @@ ghost use Rattle.rules.specs.Operations as Operations;
 ghost use Rattle.tables.specs.Lent.{countsTold, tables, answerTold};
 ghost use Rattle.program.specs.Program.{optionsTold};
 ghost use Rattle.nodes.specs.Builds.{mostNodesOf};
-ghost use Rattle.lower.specs.Lower.{Given, Roomy, Assembled};
+ghost use Rattle.lower.specs.Lower.{Roomy};
 
 use crate::room::{estimate, holds};
 use crate::zeros::zero_numbers;

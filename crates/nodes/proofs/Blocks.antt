@@ -1,19 +1,17 @@
 -- What a node's word says of the statement that is held there; and a table holds at most one list from a node. Assumes nothing.
-use mathlib.Core.Path.{◌≡◌, refl, sym, ◌∙◌, ap}
+use mathlib.Core.Path.{◌≡◌, refl, sym, ap}
 use mathlib.Core.Bool.{Bool}
 use mathlib.Core.List.{List}
 use mathlib.Core.Option.{some}
-use Prim.Native.Nat.{ℕ, zero, suc, ◌+◌, ◌*◌, ◌≤◌, ◌<◌, ◌%◌, ◌^◌}
+use Prim.Native.Nat.{ℕ, zero, suc, ◌+◌, ◌<◌, ◌%◌}
 use native.Mathlib.Omega.{arith}
-use lib.ListN.{length, get_or, get_elem?}
-use Rattle.rules.specs.Constants.{mostBytes, nameBits, listBits}
+use lib.ListN.{get_or, get_elem?}
 use Rattle.rules.specs.Bits.{isOne}
 use Rattle.rules.specs.Tree.{Assignop, Expr, Block, goto, ite, assign, end}
 use Rattle.rules.specs.Parse.{assignops}
 use Rattle.nodes.specs.Words.{word_of, iteWord, iteKind, gotoKind, stepKind, assignKind}
 use Rattle.nodes.specs.Holds.{HoldsE, HoldsB, Flag, Lists, at-end, at-goto, at-ite, at-step, at-assign}
-use Rattle.nodes.proofs.Words.{twice, kind-of}
-use Rattle.nodes.proofs.Exprs.{Same, op-small, pick_same, start-at, one}
+use Rattle.nodes.proofs.Words.{kind-of}
 
 -- ---- the kind of the first statement
 
@@ -145,61 +143,3 @@ is-step h b e = at-kind 2 h b e
 
 pub is-assign : {t s : List ℕ} {m n i z : ℕ} {x : Block} → 0 < n → HoldsB t s m n i x z → get_or t i 0 % 16 ≡ assignKind → IsAssign t s m n i x z
 is-assign h b e = at-kind 3 h b e
-
--- ---- at most one
-
-pub begin-at : {t s : List ℕ} {m n n' i i' z : ℕ} {x : Block} → n ≡ n' → i ≡ i' → HoldsB t s m n' i' x z → HoldsB t s m n i x z
-begin-at p q h = rw (p, q) h
-
-goto-same : (e e' : Expr) (x x' : Block) → e ≡ e' → x ≡ x' → goto e x ≡ goto e' x'
-goto-same e e' x x' p q = rw (p, q)
-
-incdec-same : (b b' y y' : ℕ) (f : Bool) (x x' : Block) → isOne b ≡ f → b ≡ b' → y ≡ y' → x ≡ x' → Block.incdec f y x ≡ Block.incdec (isOne b') y' x'
-incdec-same b b' y y' f x x' p q r o = rw (← p, q, r, o)
-
-assign-same : (y y' : ℕ) (o o' : Assignop) (e e' : Expr) (x x' : Block) → y ≡ y' → o ≡ o' → e ≡ e' → x ≡ x' → assign y o e x ≡ assign y' o' e' x'
-assign-same y y' o o' e e' x x' p q r w = rw (p, q, r, w)
-
-ite_same : (e e' : Expr) (x x' y y' z z' : Block) → e ≡ e' → x ≡ x' → y ≡ y' → z ≡ z' → ite e x y z ≡ ite e' x' y' z'
-ite_same e e' x x' y y' z z' p q r w = rw (p, q, r, w)
-
-count_same : (b b' w w' : ℕ) → b < 2 ^ listBits → b' < 2 ^ listBits → b + 2 ^ listBits * w ≡ b' + 2 ^ listBits * w' → b ≡ b'
-count_same b b' w w' p q e = omega arith
-
-pub one_b : {t s : List ℕ} {m n i z z' : ℕ} {x x' : Block} → length s ≤ mostBytes → m ≤ 2 ^ nameBits → HoldsB t s m n i x z → HoldsB t s m n i x' z' → Same x x' z z'
-unfolding assignops
-one_b a c (at-end p q) h = let d = is-end h p in record { tree = sym d.is; last = sym q ∙ d.here }
-one_b a c (at-goto p w q e xs) h =
-    let d = is-goto (omega arith) h (kind-of _ _ _ _ _ _ _ (omega arith) w) in
-    let x = twice gotoKind 0 0 0 0 0 0 _ _ 0 0 _ (omega arith) (omega arith) w d.word in
-    let f = one a c e (start-at (q ∙ sym d.next) d.to) in
-    let l = d.count in
-    let g = one_b a c xs (begin-at (omega arith) x.last-same d.others) in
-    record { tree = goto-same _ _ _ _ f.tree g.tree ∙ sym d.is; last = g.last }
-one_b a c (at-ite n k v u p w b q e y z xs) h =
-    let d = is-ite (omega arith) h (kind-of _ _ _ _ _ _ _ (omega arith) w) in
-    let r = d.lists in
-    let x = twice iteKind 0 0 n d.a (k + 2 ^ listBits * u) (d.b + 2 ^ listBits * d.w) _ _ v d.v _ (omega arith) (omega arith) w d.word in
-    let f = one a c e (start-at (q ∙ sym d.next) d.test) in
-    let g = one_b a c y (begin-at x.name-same f.last d.then) in
-    let l = one_b a c z (begin-at (count_same _ _ u d.w b.few-else r.few-else x.pos-same) g.last d.else) in
-    let o = d.count in
-    let j = one_b a c xs (begin-at (omega arith) x.last-same d.others) in
-    record { tree = ite_same _ _ _ _ _ _ _ _ f.tree g.tree l.tree j.tree ∙ sym d.is; last = j.last }
-one_b a c (at-step b f y p q g xs) h =
-    let d = is-step (omega arith) h (kind-of _ _ _ _ _ _ _ (omega arith) g.is) in
-    let r = d.flag in
-    let x = twice stepKind b d.b y d.y 0 0 _ _ 0 0 _ (omega arith) (omega arith) g.is r.is in
-    let l = d.count in
-    let j = one_b a c xs (begin-at (omega arith) x.last-same d.others) in
-    record { tree = incdec-same b d.b y d.y f _ _ q x.op_same x.name-same j.tree ∙ sym d.is; last = j.last }
-one_b a c (at-assign y op o p b w k q e xs) h =
-    let r = op-small assignops op b in
-    let d = is-assign (omega arith) h (kind-of _ _ _ _ _ _ _ (omega arith) w) in
-    let v = op-small assignops d.op d.pick in
-    let u = d.known in
-    let x = twice assignKind op d.op y d.y 0 0 _ _ 0 0 _ (omega arith) (omega arith) w d.word in
-    let f = one a c e (start-at (q ∙ sym d.next) d.value) in
-    let l = d.count in
-    let g = one_b a c xs (begin-at (omega arith) x.last-same d.others) in
-    record { tree = assign-same _ _ _ _ _ _ _ _ x.name-same (pick_same assignops op d.op x.op_same b d.pick) f.tree g.tree ∙ sym d.is; last = g.last }

@@ -5,16 +5,15 @@ use mathlib.Core.List.{List, [], ◌∷◌}
 use mathlib.Core.Option.{some}
 use Prim.Native.Nat.{ℕ, zero, suc, ◌+◌, ◌*◌, ◌≤◌, ◌<◌, ◌%◌, ◌^◌}
 use native.Mathlib.Omega.{arith}
-use lib.IntN.{ℤ}
 use lib.ListN.{length, get_or, get_elem?}
-use Rattle.rules.specs.Constants.{mostBytes, nameBits, stringLengthBits, numberBits, charBits, byteBits}
+use Rattle.rules.specs.Constants.{stringLengthBits, numberBits, charBits, byteBits}
 use Rattle.rules.specs.Bits.{spelled, isOne}
 use Rattle.rules.specs.Tree.{Binop, Unop, Expr, binop, unop, ident, number, string}
 use Rattle.rules.specs.Parse.{binops, unops, signed}
 use Rattle.bits.specs.Reads.{charsAt}
 use Rattle.nodes.specs.Words.{word_of, binopKind, unopKind, incdecKind, identKind, numberKind, stringKind}
 use Rattle.nodes.specs.Holds.{HoldsE, Flag, at-binop, at-unop, at-incdec, at-ident, at-number, at-string}
-use Rattle.nodes.proofs.Words.{twice, kind-of}
+use Rattle.nodes.proofs.Words.{kind-of}
 
 -- ---- the kind
 
@@ -131,66 +130,8 @@ is_number h e = at-kind numberKind h e
 pub is-string : {t s : List ℕ} {m i j : ℕ} {e : Expr} → HoldsE t s m i e j → get_or t i 0 % 16 ≡ stringKind → IsString t s m i e j
 is-string h e = at-kind stringKind h e
 
--- ---- at most one
-
-pub record Same {A : Type 0} (x y : A) (j j' : ℕ) : Type 0 where
-  pub tree : x ≡ y
-  pub last : j ≡ j'
-
-pub start-at : {t s : List ℕ} {m i i' j : ℕ} {e : Expr} → i ≡ i' → HoldsE t s m i' e j → HoldsE t s m i e j
-start-at p h = rw p h
-
 -- an operator that is in its list
 pub op-small : {A : Type 0} (ops : List A) (k : ℕ) {o : A} → get_elem? ops k ≡ some o → k < length ops
 op-small [] k e = absurd (let z : ◌≡◌ {A = ℕ} 0 1 = cc in omega arith)
 op-small (x ∷ ops) zero e = omega arith
 op-small (x ∷ ops) (suc k) e = let h = op-small ops k e in omega arith
-
-pub pick_same : {A : Type 0} (ops : List A) (k k' : ℕ) {o o' : A} → k ≡ k' → get_elem? ops k ≡ some o → get_elem? ops k' ≡ some o' → o ≡ o'
-pick_same ops k k' {o} {o'} e p q =
-    let a : get_elem? ops k' ≡ some o = rw e at p in
-    let b : some o ≡ some o' = sym a ∙ q in
-    cc
-
-incdec-same : (b b' y y' : ℕ) (f : Bool) → isOne b ≡ f → b ≡ b' → y ≡ y' → Expr.incdec f y ≡ Expr.incdec (isOne b') y'
-incdec-same b b' y y' f p q r = rw (← p, q, r)
-
-number_same : (s : List ℕ) (p p' : ℕ) (z : ℤ) → signed (spelled s numberBits p) ≡ z → p ≡ p' → number z ≡ number (signed (spelled s numberBits p'))
-number_same s p p' z e q = rw (← e, q)
-
-string-same : (s : List ℕ) (n n' p p' : ℕ) (x : List ℕ) → charsAt s n p ≡ x → n ≡ n' → p ≡ p' → string x ≡ string (charsAt s n' p')
-string-same s n n' p p' x e q r = rw (← e, q, r)
-
-pub one : {t s : List ℕ} {m i j j' : ℕ} {e e' : Expr} → length s ≤ mostBytes → m ≤ 2 ^ nameBits → HoldsE t s m i e j → HoldsE t s m i e' j' → Same e e' j j'
-unfolding binops unops
-one a c (at-binop op o p w q l r) h =
-    let y = op-small binops op p in
-    let b = is-binop h (kind-of _ _ _ _ _ _ _ (omega arith) w) in
-    let z = op-small binops b.op b.pick in
-    let x = twice binopKind op b.op 0 0 0 0 _ _ 0 0 _ (omega arith) (omega arith) w b.word in
-    let f = one a c l (start-at (q ∙ sym b.next) b.left) in
-    let g = one a c r (start-at f.last b.right) in
-    record { tree = rw (pick_same binops op b.op x.op_same p b.pick, f.tree, g.tree) (sym b.is); last = x.last-same }
-one a c (at-unop op o p w q r) h =
-    let y = op-small unops op p in
-    let b = is-unop h (kind-of _ _ _ _ _ _ _ (omega arith) w) in
-    let z = op-small unops b.op b.pick in
-    let x = twice unopKind op b.op 0 0 0 0 _ _ 0 0 _ (omega arith) (omega arith) w b.word in
-    let g = one a c r (start-at (q ∙ sym b.next) b.operand) in
-    record { tree = rw (pick_same unops op b.op x.op_same p b.pick, g.tree) (sym b.is); last = x.last-same }
-one a c (at-incdec b f y p g) h =
-    let d = is-incdec h (kind-of _ _ _ _ _ _ _ (omega arith) g.is) in
-    let x = twice incdecKind b d.b y d.x 0 0 _ _ 0 0 _ (omega arith) (omega arith) g.is d.flag.is in
-    record { tree = incdec-same b d.b y d.x f p x.op_same x.name-same ∙ sym d.is; last = x.last-same }
-one a c (at-ident y l w k) h =
-    let d = is-ident h (kind-of _ _ _ _ _ _ _ (omega arith) w) in
-    let x = twice identKind 0 0 y d.x 0 0 _ _ 0 0 _ (omega arith) (omega arith) w d.word in
-    record { tree = ap ident x.name-same ∙ sym d.is; last = x.last-same }
-one a c (at-number p z l w k q) h =
-    let d = is_number h (kind-of _ _ _ _ _ _ _ (omega arith) w) in
-    let x = twice numberKind 0 0 0 0 p d.p _ _ 0 0 _ (omega arith) (omega arith) w d.word in
-    record { tree = number_same _ p d.p z q x.pos-same ∙ sym d.is; last = x.last-same }
-one a c (at-string n p y l w f k q) h =
-    let d = is-string h (kind-of _ _ _ _ _ _ _ (omega arith) w) in
-    let x = twice stringKind 0 0 n d.n p d.p _ _ 0 0 _ (omega arith) (omega arith) w d.word in
-    record { tree = string-same _ n d.n p d.p y q x.name-same x.pos-same ∙ sym d.is; last = x.last-same }

@@ -1,5 +1,5 @@
 -- A node's word taken apart. Assumes nothing.
-use mathlib.Core.Path.{◌≡◌, sym, ◌∙◌}
+use mathlib.Core.Path.{◌≡◌}
 use Prim.Native.Nat.{ℕ, ◌/◌, ◌%◌, ◌<◌}
 use native.Mathlib.Omega.{arith}
 use Rattle.nodes.specs.Words.{word_of}
@@ -27,23 +27,3 @@ unpacked kind op name pos last width w f e = omega arith
 pub kind-of : (kind op name pos last width w : ℕ) → kind < 16 → w ≡ word_of kind op name pos last width → w % 16 ≡ kind
 unfolding word_of
 kind-of kind op name pos last width w h e = omega arith
-
--- two readings of one word
-pub record Twice (o o' n n' p p' l l' v v' : ℕ) : Type 0 where
-  pub op_same : o ≡ o'
-  pub name-same : n ≡ n'
-  pub pos-same : p ≡ p'
-  pub last-same : l ≡ l'
-  pub width_same : v ≡ v'
-
-pub twice : (k o o' n n' p p' l l' v v' g : ℕ) → Fits k o n p v → Fits k o' n' p' v' → g ≡ word_of k o n p l v → g ≡ word_of k o' n' p' l' v' → Twice o o' n n' p p' l l' v v'
-twice k o o' n n' p p' l l' v v' g a b e f =
-    let u = unpacked k o n p l v g a e in
-    let w = unpacked k o' n' p' l' v' g b f in
-    record {
-      op_same = sym u.op-is ∙ w.op-is;
-      name-same = sym u.name-is ∙ w.name-is;
-      pos-same = sym u.pos-is ∙ w.pos-is;
-      last-same = sym u.last-is ∙ w.last-is;
-      width_same = sym u.width_is ∙ w.width_is;
-    }

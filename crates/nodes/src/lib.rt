@@ -9,7 +9,7 @@ pub mod layout;
 
 ghost use Rattle.std.specs.Prelude.{◌≡◌, ◌≤◌, ◌<◌, ◌*◌, ◌+◌, ◌-◌, ◌^◌, length};
 ghost use Rattle.rules.specs.Constants.{mostNodes, nameBits, listBits, operatorBits};
-ghost use Rattle.rules.specs.Parse.{expr, incdecOf, identOf, number_of, stringOf, gotoOf, assignOf};
+ghost use Rattle.rules.specs.Parse.{expr, identOf, number_of, stringOf, gotoOf, assignOf};
 ghost use Rattle.nodes.specs.Words.{word_of, iteWord};
 ghost use Rattle.nodes.specs.Width.{orOne};
 ghost use Rattle.nodes.specs.Builds.{Ready, Begun, BegunStmt, Closed, Spans, Builds, before, beforeStmt, joined, heldE, countE, held_f, countF, flagR, leafR, heldS, countS, ReadsExpr, ReadsStmt, ReadsBlock, ReadsList};

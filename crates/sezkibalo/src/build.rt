@@ -9,7 +9,6 @@ ghost use Rattle.sezkibalo.specs.Calls.{optionsOf, buildCall};
 use crate::counts::{EIGHT, answered};
 use params::options::CodegenOptions;
 use params::refusal::NO_ROOM;
-use tables::answer::Answer;
 
 // Bit 0 protects the local names, bit 1 the global ones; the other bits are ignored.
 fn options_of(n: u64) -> CodegenOptions

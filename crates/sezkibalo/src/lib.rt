@@ -16,7 +16,6 @@ ghost use Rattle.sezkibalo.specs.Calls.{sizeCall, changeCall};
 use counts::{EIGHT, SIX, answered, put_sizes, read_counts};
 use params::limits::MOST_COUNT;
 use params::refusal::NO_ROOM;
-use tables::answer::Answer;
 use tables::text::text_place;
 use tree::SizeAnswer;
 use words::instr::StrReg;

@@ -22,9 +22,6 @@ use Rattle.codegen.proofs.Lists.{found}
 use Rattle.exprs.proofs.Trees.{last-held}
 use Rattle.stmts.specs.Lists.{isEnd, entryBy, deep}
 
-pub some_of : (n : ℕ) → (n ≡ 0 → ⊥) → 0 < n
-some_of n h = omega arith
-
 -- ---- entries
 
 pub entry-same : {t s : List ℕ} {m l z : ℕ} {y : Block} (n a k : ℕ) → 0 < n → HoldsB t s m (n - 1) l y z → entryBy n a k ≡ cond (isEnd y) k a

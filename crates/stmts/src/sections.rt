@@ -3,7 +3,7 @@
 // Each function is shown to make a section of what the step of `rules` emits (`Makes`); `codegen_from_own` chooses among them by the node's kind,
 // for lists and for lines (`OwnDone`). A caller owes the node table and room (`Holding`, `OwnReady`), a slot in the table of sections, and
 // instructions below 65,536.
-ghost use Rattle.std.specs.Prelude.{◌≡◌, List, map, ℤ, ℕ, ◌+◌, ◌*◌, ◌-◌, ◌≤◌, ◌<◌, length, get_or, set};
+ghost use Rattle.std.specs.Prelude.{◌≡◌, List, map, ℤ, ℕ, ◌+◌, ◌-◌, ◌≤◌, ◌<◌, length, get_or, set};
 ghost use Rattle.std.proofs.lemmas.List.Edits.{sets};
 ghost use Rattle.rules.specs.Constants.{mostNames};
 ghost use Rattle.rules.specs.Tables.{runOf};

@@ -7,7 +7,7 @@ use native.Mathlib.Numerals.{sub-one}
 use borrow.Author.Tests.{eq-eqb, ne_eqb, lt-ltb, le-ltb, le-leb, lt-leb}
 use lib.Dec.{eqb, ltb}
 use lib.ListN.{length, set}
-use Rattle.rules.specs.Constants.{mostBytes, mostDepth, form, head_bits, nameBits, listBits, byteBits}
+use Rattle.rules.specs.Constants.{mostBytes, mostDepth, form, head_bits, nameBits, byteBits}
 use Rattle.rules.specs.Refusal.{otherForm, zeroLines, leftOver, tooLong}
 use Rattle.rules.specs.Bits.{Res, refused, ok}
 use Rattle.rules.specs.Tree.{Block, Tree, ofLines, both, emptyTally}
@@ -22,8 +22,6 @@ use Rattle.tree.specs.declared.SizeAnswer.TheVariants.{Sized, Refused as No}
 use Rattle.tree.specs.Files.{headValues, Ended, lineWord, HoldsL, no_line, a-line, Lined, LinesMid, Filed, Treed, TreeRead, start, origin, widths, Headed, Placed, sizeRes}
 use Rattle.bits.proofs.Bits.{field_in}
 use Rattle.bits.proofs.Gives.{then, stop, done, passes, fails, bits_in, unique, never, after}
-use Rattle.nodes.proofs.Exprs.{Same}
-use Rattle.nodes.proofs.Blocks.{one_b, begin-at}
 use Rattle.nodes.proofs.Table.{agree_refl, agree-part, agree_trans, moved-b, grows-b, set_below, set_here}
 
 -- ---- the end
@@ -247,27 +245,3 @@ pub size-from : {s t ls : List ℕ} {r : SizeAnswer} → TreeRead s t ls r → s
 unfolding size
 size-from {s = s} {r = Sized z} h = rw (h.here.parses, size) (ap ok h.here.size_is)
 size-from {s = s} {r = No k} h = rw (h.here, size)
-
--- ---- at most one: lines that the tables hold from one line and node to the same line are the same
-lines-le : {t ls s : List ℕ} {m k i k' j : ℕ} {xs : List Block} → HoldsL t ls s m k i xs k' j → k ≤ k'
-lines-le (no_line p q) = omega arith
-lines-le (a-line n f w b p l) = let h = lines-le l in omega arith
-
-line_same : (n n' i g : ℕ) → n < 2 ^ listBits → n' < 2 ^ listBits → g ≡ lineWord n i → g ≡ lineWord n' i → n ≡ n'
-unfolding lineWord
-line_same n n' i g a b e f = omega arith
-
-lines_at : {t ls s : List ℕ} {m k h i i' k' j : ℕ} {xs : List Block} → k ≡ h → i ≡ i' → HoldsL t ls s m h i' xs k' j → HoldsL t ls s m k i xs k' j
-lines_at p q l = rw (p, q) l
-
-cons_same : (x x' : Block) (y y' : List Block) → x ≡ x' → y ≡ y' → (x ∷ y) ≡ (x' ∷ y')
-cons_same x x' y y' p q = rw (p, q)
-
-pub one-lines : {t ls s : List ℕ} {m k i k' j j' : ℕ} {xs ys : List Block} → length s ≤ mostBytes → m ≤ 2 ^ nameBits → HoldsL t ls s m k i xs k' j → HoldsL t ls s m k i ys k' j' → Same xs ys j j'
-one-lines a c (no_line p q) (no_line p' q') = record { tree = refl; last = sym q ∙ q' }
-one-lines a c (no_line p q) (a-line n f w b z l) = absurd (let h = lines-le l in omega arith)
-one-lines a c (a-line n f w b z l) (no_line p q) = absurd (let h = lines-le l in omega arith)
-one-lines a c (a-line n f w b z l) (a-line n' f' w' b' z' l') =
-    let x = one_b a c b (begin-at (line_same n n' _ _ f f' w w') refl b') in
-    let y = one-lines a c l (lines_at (z ∙ sym z') x.last l') in
-    record { tree = cons_same _ _ _ _ x.tree y.tree; last = y.last }
