@@ -1,4 +1,4 @@
-//! The operations of document 01: its refusals are decided here, the machine comes from yogi.
+//! The operations of docs/FORMAT.md: their refusals are decided here, the machine comes from yogi.
 
 use crate::limits::*;
 use crate::machine::{pack, sound, span_fits, unpack, Counts, Machine, Next, Sect, Span, Tables};
@@ -11,7 +11,7 @@ use std::panic::{catch_unwind, AssertUnwindSafe};
 pub enum Answer<T> {
     Refused(u8),
     Done(T),
-    /// yogi panicked on what document 01 does not refuse
+    /// yogi panicked on what the rules do not refuse
     Panic,
 }
 
@@ -215,7 +215,7 @@ fn refusal(op: Op, machine: &Machine) -> Option<u8> {
     }
 }
 
-/// yogi's pass on a machine, whatever document 01 says of it.
+/// yogi's pass on a machine, whatever the rules say of it.
 pub fn pass(op: Op, machine: &Machine) -> Answer<Machine> {
     ask_yogi(|| match op {
         Op::Replace => glue::replace(machine),

@@ -1,4 +1,4 @@
-//! The judge as a library: yogi's own code behind the tree form and the refusals of document 01.
+//! The judge as a library: yogi's own code behind the tree form and the refusals of docs/FORMAT.md.
 
 pub mod bits;
 pub mod figures;

@@ -1,4 +1,4 @@
-//! The numbers of document 01: limits and refusals.
+//! The numbers of docs/FORMAT.md: limits and refusals.
 
 pub const MOST_BYTES: usize = 32_768;
 pub const MOST_DEPTH: usize = 64;

@@ -1,4 +1,4 @@
-//! The judge: yogi's own code behind the tree form and the refusals of document 01.
+//! The judge: yogi's own code behind the tree form and the refusals of docs/FORMAT.md.
 //! README.md says what each command does.
 
 use oracle::judge::{Answer, Op, Options, Stage};

@@ -1,4 +1,4 @@
-//! Document 01's worked examples, and where it is stricter than yogi. Run by `cargo test --release`.
+//! Files and machines worked out by hand, and where the rules are stricter than yogi. Run by `cargo test --release`.
 
 use crate::bits::unhex;
 use crate::finlist::finlist;
@@ -106,7 +106,7 @@ fn finlist_sample() {
     assert_eq!(finlist(&[0; 8_192]), "R 1\n");
 }
 
-/// What document 01 answers, and what yogi alone does.
+/// What the rules answer, and what yogi alone does.
 fn both(op: Op, text: &str) -> (Answer<()>, Answer<Machine>) {
     let (counts, tables) = line::parse(text).unwrap();
     (

@@ -1,4 +1,4 @@
-//! The tree form of document 01: read (with its refusals), written, counted.
+//! The tree form of docs/FORMAT.md: read (with its refusals), written, counted.
 
 use crate::bits::{Reader, Writer};
 use crate::limits::*;

@@ -1,4 +1,4 @@
-//! The two walks of demand 3, written from document 01: a finished machine is walked, a tree is read in
+//! Walk and reading, written from docs/FORMAT.md: a finished machine is walked, a tree is read in
 //! order. Both use up one list of outcomes.
 
 use crate::lowering::{jump_if, Node, Script, What};

@@ -1,4 +1,4 @@
-//! The walks of demand 3 on scripts of one line, on random trees, and on machines that are wrong.
+//! Walk and reading on scripts of one line, on random trees, and on machines that are wrong.
 
 use crate::bits::unhex;
 use crate::generate::{outcomes, trees};

@@ -1,4 +1,4 @@
-//! Demand 3 on random trees: the finished machine is walked, the tree is read, and both must agree.
+//! Preservation on random trees: the finished machine is walked, the tree is read, and both must agree.
 
 use crate::bits::hex;
 use crate::generate::{outcomes, trees};

@@ -12,7 +12,7 @@ use lib.Pow.{pow-add, pow_mono, shr-shr, mod-pow-add, shl_exact, high, low, fiel
 use borrow.Author.Tests.{leb-true, leb-false}
 use Rattle.rules.specs.Constants.{byteBits}
 use Rattle.rules.specs.Bits.{bit, spelled}
-use Rattle.bits.proofs.Bits.{bit-lt, spelled-lt}
+use Rattle.laws.specs.Texts.{bit-lt, spelled-lt}
 
 -- k bits, then n more
 pub spelled-append : (s : List ℕ) (k n p : ℕ) → spelled s (k + n) p ≡ spelled s k p * 2 ^ n + spelled s n (p + k)

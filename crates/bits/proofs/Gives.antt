@@ -11,12 +11,12 @@ use mathlib.Core.Option.{Option, none, some}
 use Rattle.rules.specs.Constants.{mostNodes, byteBits, charBits, nameBits}
 use Rattle.rules.specs.Refusal.{endsInField, tooDeep, tooManyNodes, unassigned, unknownName}
 use Rattle.rules.specs.Bits.{Res, refused, ok, field, spelled}
-use Rattle.rules.specs.Parse.{Reader, At, succeed, refuse, demand, begin, bits, many, operator, name_of, ◌>>=◌}
+use Rattle.rules.specs.Parse.{Reader, At, succeed, refuse, demand, begin, bits, many, operator, nameOf, ◌>>=◌}
 use Rattle.bits.specs.Reads.{Gives, Fine, Took, Passed, Passes, Ends, Skips, at, belowR, beginR, charsAt}
 use Rattle.bits.specs.declared.Cursor.{Cursor}
 use Rattle.bits.specs.declared.Step.{Step}
 use Rattle.bits.specs.declared.Step.TheVariants.{Next, Refused}
-use Rattle.bits.proofs.Bits.{inside, field_in, field_out}
+use Rattle.bits.proofs.Bits.{inside, field-in, field-out}
 
 pub done : {A : Type 0} {a : A} {s : List ℕ} {c : At} → Gives (succeed a) s c (ok (a, c))
 unfolding succeed
@@ -58,28 +58,28 @@ unfolding demand refuse
 fails e = record { is = rw e }
 
 -- a field that was there, and one that was not
-pub bits_in : (s : List ℕ) (w : ℕ) (c : At) (v p : ℕ) → ok (v, p) ≡ field s w c.pos → Gives (bits w) s c (ok (v, record { pos = p; nodes = c.nodes }))
+pub bits-in : (s : List ℕ) (w : ℕ) (c : At) (v p : ℕ) → ok (v, p) ≡ field s w c.pos → Gives (bits w) s c (ok (v, record { pos = p; nodes = c.nodes }))
 unfolding bits
-bits_in s w c v p e = record { is = rw (← e, bits) }
+bits-in s w c v p e = record { is = rw (← e, bits) }
 
-pub bits_out : (s : List ℕ) (w : ℕ) (c : At) → refused endsInField ≡ field s w c.pos → Gives (bits w) s c (refused endsInField)
+pub bits-out : (s : List ℕ) (w : ℕ) (c : At) → refused endsInField ≡ field s w c.pos → Gives (bits w) s c (refused endsInField)
 unfolding bits
-bits_out s w c e = record { is = rw (← e, bits) }
+bits-out s w c e = record { is = rw (← e, bits) }
 
 pub taken : (s : List ℕ) (w : ℕ) (c : Cursor) (v p : ℕ) → Fine s c → ok (v, p) ≡ field s w c.pos
     → Took (bits w) s c 0 0 (2 ^ w) v (record { pos = p; nodes = c.nodes; statements = c.statements; sections = c.sections; strings = c.strings; chars = c.chars })
 taken s w c v p f e =
     let i = inside s w c.pos v p e in
-    record { reads = bits_in s w (at c) v p e; small = i.small; moved = omega arith; fine = omega arith }
+    record { reads = bits-in s w (at c) v p e; small = i.small; moved = omega arith; fine = omega arith }
 
 -- a node that begins, and one too many
 pub begins : (s : List ℕ) (c : At) → c.nodes < mostNodes → Gives begin s c (ok (tt, record { pos = c.pos; nodes = suc c.nodes }))
 unfolding begin
 begins s c h = record { is = rw (lt-ltb c.nodes mostNodes h, begin) }
 
-pub too_many : (s : List ℕ) (c : At) → mostNodes ≤ c.nodes → Gives begin s c (refused tooManyNodes)
+pub too-many : (s : List ℕ) (c : At) → mostNodes ≤ c.nodes → Gives begin s c (refused tooManyNodes)
 unfolding begin
-too_many s c h = record { is = rw (le-ltb c.nodes mostNodes h, begin) }
+too-many s c h = record { is = rw (le-ltb c.nodes mostNodes h, begin) }
 
 pub begin-deep : (w d : ℕ) {s : List ℕ} {c : At} → d ≡ 0 → Gives (beginR w d) s c (refused tooDeep)
 unfolding beginR refuse
@@ -88,7 +88,7 @@ begin-deep w d e = rw e (record { is = refl })
 pub begin-many : (w d : ℕ) {s : List ℕ} {c : At} → (d ≡ 0 → ⊥) → mostNodes ≤ c.nodes → Gives (beginR w d) s c (refused tooManyNodes)
 unfolding beginR
 begin-many w zero h k = absurd (h refl)
-begin-many w (suc d) h k = stop _ (too_many _ _ k)
+begin-many w (suc d) h k = stop _ (too-many _ _ k)
 
 begin-then : (w d : ℕ) {s : List ℕ} {c c1 : At} {res : Res (ℕ × At)} → (d ≡ 0 → ⊥) → Gives begin s c (ok (tt, c1)) → Gives (bits w) s c1 res → Gives (beginR w d) s c res
 unfolding beginR
@@ -106,7 +106,7 @@ unfolding many charsAt
 chars-in zero s p m h = let e : p + 0 ≡ p = omega arith in rw e done
 chars-in (suc n) s p m h =
     let e : p + charBits * suc n ≡ p + charBits + charBits * n = omega arith in
-    rw e (then _ (bits_in s charBits (record { pos = p; nodes = m }) _ _ (sym (field_in s charBits p (omega arith)))) (then _ (chars-in n s (p + charBits) m (omega arith)) done))
+    rw e (then _ (bits-in s charBits (record { pos = p; nodes = m }) _ _ (sym (field-in s charBits p (omega arith)))) (then _ (chars-in n s (p + charBits) m (omega arith)) done))
 
 pub chars-out : (n : ℕ) (s : List ℕ) (p m : ℕ) → p ≤ byteBits * length s → byteBits * length s < p + charBits * n → Gives (many n (bits charBits)) s (record { pos = p; nodes = m }) (refused endsInField)
 unfolding many
@@ -117,8 +117,8 @@ chars-out (suc n) s p m i h = by n s p m (λ j k. chars-out n s (p + charBits) m
         → byteBits * length s < p + charBits * suc n → (b : Bool) → leb (p + charBits) (byteBits * length s) ≡ b → Gives (many (suc n) (bits charBits)) s (record { pos = p; nodes = m }) (refused endsInField)
     by n s p m more h true e =
         let k : p + charBits ≤ byteBits * length s = leb-true _ _ e in
-        then _ (bits_in s charBits (record { pos = p; nodes = m }) _ _ (sym (field_in s charBits p k))) (stop _ (more k (omega arith)))
-    by n s p m more h false e = stop _ (bits_out s charBits (record { pos = p; nodes = m }) (sym (field_out s charBits p (leb-false _ _ e))))
+        then _ (bits-in s charBits (record { pos = p; nodes = m }) _ _ (sym (field-in s charBits p k))) (stop _ (more k (omega arith)))
+    by n s p m more h false e = stop _ (bits-out s charBits (record { pos = p; nodes = m }) (sym (field-out s charBits p (leb-false _ _ e))))
 
 pub data Seen {A : Type 0} (m : Reader A) (s : List ℕ) (c : At) : Type 0 where
   said : (a : A) (d : At) → Gives m s c (ok (a, d)) → Seen m s c
@@ -142,9 +142,9 @@ spells {s} {w} {v} {c} {d} g = by (leb (c.pos + w) (byteBits * length s)) refl
     by : (b : Bool) → leb (c.pos + w) (byteBits * length s) ≡ b → Spelled s w c.pos v
     by true h =
         let k = leb-true _ _ h in
-        let e = inject (unique g (bits_in s w c _ _ (sym (field_in s w c.pos k)))) in
+        let e = inject (unique g (bits-in s w c _ _ (sym (field-in s w c.pos k)))) in
         record { is = ap (λ (x : ℕ × At). x.0) e; inside = k }
-    by false h = absurd (never (unique g (bits_out s w c (sym (field_out s w c.pos (leb-false _ _ h))))))
+    by false h = absurd (never (unique g (bits-out s w c (sym (field-out s w c.pos (leb-false _ _ h))))))
 
 -- ---- operators: the list's length is the limit
 
@@ -157,10 +157,10 @@ picked [] k h = absurd (omega arith)
 picked (x ∷ ops) zero h = record { val = x; is = refl }
 picked (x ∷ ops) (suc k) h = let p = picked ops k (omega arith) in record { val = p.val; is = p.is }
 
-no_more : {A : Type 0} (ops : List A) (k : ℕ) → length ops ≤ k → get_elem? ops k ≡ none
-no_more [] k h = refl
-no_more (x ∷ ops) zero h = absurd (omega arith)
-no_more (x ∷ ops) (suc k) h = no_more ops k (omega arith)
+no-more : {A : Type 0} (ops : List A) (k : ℕ) → length ops ≤ k → get_elem? ops k ≡ none
+no-more [] k h = refl
+no-more (x ∷ ops) zero h = absurd (omega arith)
+no-more (x ∷ ops) (suc k) h = no-more ops k (omega arith)
 
 pub op-in : {A : Type 0} (ops : List A) (w : ℕ) {v : ℕ} {o : A} {s : List ℕ} {c d : At} → Gives (bits w) s c (ok (v, d)) → get_elem? ops v ≡ some o → Gives (operator w ops) s c (ok (o, d))
 unfolding operator
@@ -171,19 +171,19 @@ op-in {A = A} ops w {v = v} {o = o} {s = s} {d = d} g e = then _ g (chosen (get_
 
 pub op-out : {A : Type 0} (ops : List A) (w : ℕ) {v : ℕ} {s : List ℕ} {c d : At} → Gives (bits w) s c (ok (v, d)) → length ops ≤ v → Gives (operator w ops) s c (refused unassigned)
 unfolding operator refuse
-op-out {A = A} ops w {v = v} {s = s} {d = d} g h = then _ g (chosen (get_elem? ops v) (no_more ops v h))
+op-out {A = A} ops w {v = v} {s = s} {d = d} g h = then _ g (chosen (get_elem? ops v) (no-more ops v h))
   where
     chosen : (x : Option A) → x ≡ none → Gives {A = A} (elim x [ none ↦ refuse unassigned | some o ↦ succeed o ]) s d (refused unassigned)
     chosen x e = rw e (record { is = refl })
 
 -- a limited field, from its bits
-pub below_in : (w n k : ℕ) {a : ℕ} {s : List ℕ} {c d : At} → Gives (bits w) s c (ok (a, d)) → a < n → Gives (belowR w n k) s c (ok (a, d))
+pub below-in : (w n k : ℕ) {a : ℕ} {s : List ℕ} {c d : At} → Gives (bits w) s c (ok (a, d)) → a < n → Gives (belowR w n k) s c (ok (a, d))
 unfolding belowR
-below_in w n k g h = then _ g (then _ (passes k (lt-ltb _ n h)) done)
+below-in w n k g h = then _ g (then _ (passes k (lt-ltb _ n h)) done)
 
-pub below_out : (w n k : ℕ) {a : ℕ} {s : List ℕ} {c d : At} → Gives (bits w) s c (ok (a, d)) → n ≤ a → Gives (belowR w n k) s c (refused k)
+pub below-out : (w n k : ℕ) {a : ℕ} {s : List ℕ} {c d : At} → Gives (bits w) s c (ok (a, d)) → n ≤ a → Gives (belowR w n k) s c (refused k)
 unfolding belowR
-below_out w n k g h = then _ g (stop _ (fails (le-ltb _ n h)))
+below-out w n k g h = then _ g (stop _ (fails (le-ltb _ n h)))
 
 pub below-short : (w n k : ℕ) {x : ℕ} {s : List ℕ} {c : At} → Gives (bits w) s c (refused x) → Gives (belowR w n k) s c (refused x)
 unfolding belowR
@@ -198,11 +198,11 @@ below-bits w n k {v} {s} {c} {d} g = by (see (bits w) s c)
     by (said a e r) = tested (ltb a n) refl
       where
         tested : (b : Bool) → ltb a n ≡ b → Gives (bits w) s c (ok (v, d))
-        tested true h = rw (unique g (below_in w n k r (ltb-true a n h))) r
-        tested false h = absurd (never (unique g (below_out w n k r (ltb-false a n h))))
+        tested true h = rw (unique g (below-in w n k r (ltb-true a n h))) r
+        tested false h = absurd (never (unique g (below-out w n k r (ltb-false a n h))))
 
-pub op_ok : {A : Type 0} (ops : List A) (w n : ℕ) {v : ℕ} {o : A} {s : List ℕ} {c d : At} → Gives (belowR w n unassigned) s c (ok (v, d)) → get_elem? ops v ≡ some o → Gives (operator w ops) s c (ok (o, d))
-op_ok ops w n g e = op-in ops w (below-bits w n unassigned g) e
+pub op-ok : {A : Type 0} (ops : List A) (w n : ℕ) {v : ℕ} {o : A} {s : List ℕ} {c d : At} → Gives (belowR w n unassigned) s c (ok (v, d)) → get_elem? ops v ≡ some o → Gives (operator w ops) s c (ok (o, d))
+op-ok ops w n g e = op-in ops w (below-bits w n unassigned g) e
 
 pub op-no : {A : Type 0} (ops : List A) (w n : ℕ) {x : ℕ} {s : List ℕ} {c : At} → length ops ≡ n → Gives (belowR w n unassigned) s c (refused x) → Gives (operator w ops) s c (refused x)
 unfolding operator
@@ -213,10 +213,10 @@ op-no ops w n {x} {s} {c} l g = by (see (bits w) s c)
     by (said a e r) = tested (ltb a n) refl
       where
         tested : (b : Bool) → ltb a n ≡ b → Gives (operator w ops) s c (refused x)
-        tested true h = absurd (never (unique (below_in w n unassigned r (ltb-true a n h)) g))
+        tested true h = absurd (never (unique (below-in w n unassigned r (ltb-true a n h)) g))
         tested false h =
             let k : n ≤ a = ltb-false a n h in
-            let y : x ≡ unassigned = inject-refused (unique g (below_out w n unassigned r k)) in
+            let y : x ≡ unassigned = inject-refused (unique g (below-out w n unassigned r k)) in
             rw y (op-out ops w r (omega arith))
 
 -- two steps that are taken as one
@@ -236,8 +236,8 @@ assoc {C = C} m g f {s} {c} {res} h = by (see m s c)
             rest x i = rw (unique h (then _ (then _ r q) (record { is = i }))) (record { is = i })
 
 -- a name is a limited field
-pub named : (n : ℕ) {s : List ℕ} {c : At} {res : Res (ℕ × At)} → Gives (belowR nameBits n unknownName) s c res → Gives (name_of n) s c res
-unfolding belowR name_of
+pub named : (n : ℕ) {s : List ℕ} {c : At} {res : Res (ℕ × At)} → Gives (belowR nameBits n unknownName) s c res → Gives (nameOf n) s c res
+unfolding belowR nameOf
 named n g = g
 
 -- where bits that were there end
@@ -245,7 +245,7 @@ pub after : (w : ℕ) {s : List ℕ} {v p q n m : ℕ} → Gives (bits w) s (rec
 after w {s} {v} {p} {q} {n} {m} g =
     let c : At = record { pos = p; nodes = n } in
     let h = (spells g).inside in
-    let e = inject (unique g (bits_in s w c _ _ (sym (field_in s w p h)))) in
+    let e = inject (unique g (bits-in s w c _ _ (sym (field-in s w p h)))) in
     ap (λ (x : ℕ × At). x.1.pos) e
 
 -- ---- bits are the same however many nodes were counted
@@ -253,17 +253,17 @@ after w {s} {v} {p} {q} {n} {m} g =
 recount : (w : ℕ) {s : List ℕ} {v p q n m : ℕ} (k : ℕ) → Gives (bits w) s (record { pos = p; nodes = n }) (ok (v, record { pos = q; nodes = m })) → Gives (bits w) s (record { pos = p; nodes = k }) (ok (v, record { pos = q; nodes = k }))
 recount w {s} {v} {p} k g =
     let h = spells g in
-    rw (h.is, after w g) (bits_in s w (record { pos = p; nodes = k }) _ _ (sym (field_in s w p h.inside)))
+    rw (h.is, after w g) (bits-in s w (record { pos = p; nodes = k }) _ _ (sym (field-in s w p h.inside)))
 
 recount-out : (w : ℕ) {s : List ℕ} {p n x : ℕ} (k : ℕ) → Gives (bits w) s (record { pos = p; nodes = n }) (refused x) → Gives (bits w) s (record { pos = p; nodes = k }) (refused x)
 recount-out w {s} {p} {n} {x} k g = by (leb (p + w) (byteBits * length s)) refl
   where
     by : (b : Bool) → leb (p + w) (byteBits * length s) ≡ b → Gives (bits w) s (record { pos = p; nodes = k }) (refused x)
-    by true h = absurd (never (unique (bits_in s w (record { pos = p; nodes = n }) _ _ (sym (field_in s w p (leb-true _ _ h)))) g))
+    by true h = absurd (never (unique (bits-in s w (record { pos = p; nodes = n }) _ _ (sym (field-in s w p (leb-true _ _ h)))) g))
     by false h =
-        let out = sym (field_out s w p (leb-false _ _ h)) in
-        let e : x ≡ endsInField = inject-refused (unique g (bits_out s w (record { pos = p; nodes = n }) out)) in
-        rw e (bits_out s w (record { pos = p; nodes = k }) out)
+        let out = sym (field-out s w p (leb-false _ _ h)) in
+        let e : x ≡ endsInField = inject-refused (unique g (bits-out s w (record { pos = p; nodes = n }) out)) in
+        rw e (bits-out s w (record { pos = p; nodes = k }) out)
 
 -- a node is counted with the bits of its kind, two at least
 pub begun : {s : List ℕ} {w more d v : ℕ} {c e : Cursor} → (d ≡ 0 → ⊥) → c.nodes < mostNodes → 2 ≤ w → more ≤ 1 → Fine s c → Took (bits w) s c 0 0 (2 ^ w) v e
@@ -284,10 +284,10 @@ pub pass-bits : {s : List ℕ} {c d : Cursor} {w v : ℕ} → Passed w s c v d �
 pass-bits {s} {c} {d} {w} h =
     let m = h.moved in
     let n : d.nodes ≡ c.nodes = omega arith in
-    rw (h.place, n) (bits_in s w (at c) _ _ (sym (field_in s w c.pos h.inside)))
+    rw (h.place, n) (bits-in s w (at c) _ _ (sym (field-in s w c.pos h.inside)))
 
 pub ends-bits : {s : List ℕ} {c : Cursor} {w x : ℕ} → Ends w s c x → Gives (bits w) s (at c) (refused x)
-ends-bits {s} {c} {w} h = rw h.is (bits_out s w (at c) (sym (field_out s w c.pos h.outside)))
+ends-bits {s} {c} {w} h = rw h.is (bits-out s w (at c) (sym (field-out s w c.pos h.outside)))
 
 -- as characters
 pub pass-chars : (n : ℕ) {s : List ℕ} {c : Cursor} (st : Step) → Fine s c → Passes (charBits * n) s c st → Skips n s c st

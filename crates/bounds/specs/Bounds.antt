@@ -1,6 +1,7 @@
 -- The counts of a parsed tree's machine lie below 65,535.
-use Rattle.std.specs.Prelude.{◌≡◌, refl, List, [], ◌∷◌, ℕ, ◌≤◌, ◌<◌}
+use Rattle.std.specs.Prelude.{◌≡◌, refl, List, [], ◌∷◌, ℕ, ◌+◌, ◌*◌, ◌≤◌, ◌<◌}
 use Rattle.std.proofs.Common.{arith}
+use Rattle.rules.specs.Constants.{mostNodes, mostLines, mostNames, numbersANode, instrsANode, sectionsAStatement}
 use Rattle.rules.specs.Bits.{ok}
 use Rattle.rules.specs.Tree.{Tree, Expr, Block, Tally, both, node, statement, ofExpr, ofBlock, ofLines, binop, unop, ident, number, string, goto, ite, assign, end}
 use Rattle.rules.specs.Tree as Tree
@@ -8,7 +9,7 @@ use Rattle.rules.specs.Parse.{parse}
 use Rattle.rules.specs.Tables.{Counts, countsOf}
 use Rattle.rules.specs.Annotate.{fresh}
 use Rattle.rules.specs.Lowered.{Options, lowered}
-use Rattle.rules.specs.Operations.{size_of, estimate}
+use Rattle.rules.specs.Operations.{sizeOf, estimate}
 use Rattle.bounds.specs.LimitsTree.{limits}
 use Rattle.bounds.specs.Own.{annotate-made}
 use Rattle.bounds.specs.Estimate.{estimated}
@@ -50,18 +51,18 @@ few-lines (b ∷ bs) = few-both (ofBlock b) (ofLines bs) (few-block b) (few-line
 
 pub record Small (u : Counts) : Type 0 where
   pub some-lines : 0 < u.lines
-  pub lines : u.lines ≤ 255
-  pub sections : u.sections ≤ 8447
-  pub instrs : u.instrs ≤ 18432
-  pub numbers : u.numbers ≤ 4096
-  pub strings : u.strings ≤ 2048
+  pub lines : u.lines ≤ mostLines
+  pub sections : u.sections ≤ mostLines + sectionsAStatement * mostNodes
+  pub instrs : u.instrs ≤ instrsANode * mostNodes
+  pub numbers : u.numbers ≤ numbersANode * mostNodes
+  pub strings : u.strings ≤ mostNodes
   pub pool : u.pool ≤ 37449
-  pub names : u.names ≤ 255
+  pub names : u.names ≤ mostNames
   pub values : u.values ≤ 6144
 
 -- All counts of the lowered machine are small: far below 65,535.
 pub small : (o : Options) (s : List ℕ) (t : Tree) → parse s ≡ ok t → Small (countsOf (lowered o t))
-unfolding estimate size_of fresh countsOf lowered
+unfolding estimate sizeOf fresh countsOf lowered
 small o s t e =
     let l = limits s t e in
     let w = estimated o t in

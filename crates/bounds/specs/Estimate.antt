@@ -9,14 +9,14 @@ use Rattle.rules.specs.Machine.{SectionCode}
 use Rattle.rules.specs.Tables.{Counts, countsOf, allCode}
 use Rattle.rules.specs.Script.{Stmts, nil, plain, goto, ite, Script}
 use Rattle.rules.specs.Annotate.{annotate, fresh}
-use Rattle.rules.specs.Assemble.{nextLine, orOne, sectionsMade, ownCode, entry, link, cond_code, inner, orEmpty, stmtSections, head_of, tailOf, lineSections, heads, tails, sectionsOf}
+use Rattle.rules.specs.Assemble.{nextLine, orOne, sectionsMade, ownCode, entry, link, condCode, inner, orEmpty, stmtSections, headOf, tailOf, lineSections, heads, tails, sectionsOf}
 use Rattle.rules.specs.Replace.{Rule, stays, goes, turns, number, result, blank, ruleOf, Regs, replaceBy, replaceIns, replaceCode, replaceSections}
 use Rattle.rules.specs.Lowered.{Options, nameWords, spans, texts, lowered}
-use Rattle.rules.specs.Operations.{size_of, estimate}
+use Rattle.rules.specs.Operations.{sizeOf, estimate}
 use Rattle.bounds.specs.Lengths.{length-low, length-tailOf, heads-length}
-use Rattle.bounds.specs.Own.{code_of, sizes, codes, annotate-made}
-use Rattle.bounds.specs.Stay.{numbers_stay, strings-stay}
-use Rattle.bounds.specs.Lengths.{length-spans}
+use Rattle.bounds.specs.Own.{codeOf, sizes, codes, annotate-made}
+use Rattle.bounds.specs.Stay.{numbers-stay, strings-stay}
+use Rattle.laws.specs.Texts.{length-spans}
 use Rattle.laws.specs.Sections.{replaced-length}
 
 -- ---- sections
@@ -48,7 +48,7 @@ len-append : (a b : List SectionCode) → codeLen (a ++ b) ≡ codeLen a + codeL
 len-append [] b = omega arith
 len-append (s ∷ a) b = omega (arith, len-append a b)
 
-cond-len : (t : Stmts) (c n : ℕ) → length (cond_code t c n) ≤ 1
+cond-len : (t : Stmts) (c n : ℕ) → length (condCode t c n) ≤ 1
 cond-len nil c n = omega arith
 cond-len (plain o s) c n = omega arith
 cond-len (goto o r s) c n = omega arith
@@ -63,7 +63,7 @@ empty-len (ite o c t f s) k l = omega arith
 own-len : (e : ℕ) (o : List Instruction) → length (ownCode e o) ≡ length o
 own-len e o = simp length-map
 
-low-len : (b : Bool) (e n k : ℕ) (s : Stmts) → codeLen (stmtSections b e n k s) ≤ code_of s
+low-len : (b : Bool) (e n k : ℕ) (s : Stmts) → codeLen (stmtSections b e n k s) ≤ codeOf s
 low-len b e n k nil = omega arith
 low-len b e n k (plain o s) = omega (arith, own-len e o, low-len b e (suc n) k s)
 low-len b e n k (goto o r s) = omega (arith, own-len e o, low-len false e (suc n) k s)
@@ -75,7 +75,7 @@ low-len b e n k (ite o c t f s) =
     let r = inner [] (link b (entry s (suc nj) k)) ∷ stmtSections b e (suc nj) k s in
     omega (
       arith,
-      length-append (ownCode e o) (cond_code t c (suc n)),
+      length-append (ownCode e o) (condCode t c (suc n)),
       own-len e o,
       cond-len t c (suc n),
       len-append (orEmpty t nj lt) (orEmpty f nj lf ++ r),
@@ -87,20 +87,20 @@ low-len b e n k (ite o c t f s) =
       low-len b e (suc nj) k s,
     )
 
-line-len : (e : ℕ) (l : List SectionCode) → length (head_of e l).instrs + codeLen (tailOf l) ≡ codeLen l
+line-len : (e : ℕ) (l : List SectionCode) → length (headOf e l).instrs + codeLen (tailOf l) ≡ codeLen l
 line-len e [] = refl
 line-len e (s ∷ l) = omega arith
 
-lines_len : (L i n : ℕ) (t : Script) → codeLen (heads L i n t) + codeLen (tails L i n t) ≤ codes t
-lines_len L i n [] = omega arith
-lines_len L i n (s ∷ t) =
+lines-len : (L i n : ℕ) (t : Script) → codeLen (heads L i n t) + codeLen (tails L i n t) ≤ codes t
+lines-len L i n [] = omega arith
+lines-len L i n (s ∷ t) =
     let l = lineSections L i n s in
     let e = nextLine L i in
-    omega (arith, line-len e l, len-append (tailOf l) (tails L (suc i) (n + sectionsMade s) t), low-len true e n e s, lines_len L (suc i) (n + sectionsMade s) t)
+    omega (arith, line-len e l, len-append (tailOf l) (tails L (suc i) (n + sectionsMade s) t), low-len true e n e s, lines-len L (suc i) (n + sectionsMade s) t)
 
 sections-len : (t : Script) → codeLen (sectionsOf t) ≤ codes t
 unfolding sectionsOf
-sections-len t = let L = length t in omega (arith, len-append (heads L 0 L t) (tails L 0 L t), lines_len L 0 L t)
+sections-len t = let L = length t in omega (arith, len-append (heads L 0 L t) (tails L 0 L t), lines-len L 0 L t)
 
 -- Replacement makes no more instructions.
 by-len : (p : ℕ) (r : Rule) (σ : Regs) (i : Instruction) → length (replaceBy p r σ i).0 ≤ 1
@@ -141,8 +141,8 @@ pub record WithinEstimate (u e : Counts) : Type 0 where
   pub pool : u.pool ≡ e.pool
   pub names : u.names ≡ e.names
 
-pub estimated : (o : Options) (t : Tree) → WithinEstimate (countsOf (lowered o t)) (estimate (size_of t))
-unfolding countsOf lowered estimate size_of fresh texts
+pub estimated : (o : Options) (t : Tree) → WithinEstimate (countsOf (lowered o t)) (estimate (sizeOf t))
+unfolding countsOf lowered estimate sizeOf fresh texts
 estimated o t =
     let a = annotate-made t in
     let ss = (annotate t).0 in
@@ -156,7 +156,7 @@ estimated o t =
       lines = a.long;
       sections = omega (arith, replaced-length p σ m, sections-length ss, a.long, a.size-most);
       instrs = omega (arith, code-length x, replaced-len p σ m, sections-len ss, a.code-most);
-      numbers = omega (arith, ap length (numbers_stay o t), w.numbers-most);
+      numbers = omega (arith, ap length (numbers-stay o t), w.numbers-most);
       strings = ap length (strings-stay o t) ∙ (length-spans 0 g.strings ∙ omega (arith, w.strings-are));
       pool = omega (arith, w.pool-is);
       names = names-length o t.names g.names (omega (arith, w.names-are, length-replicate {A = Option ℕ} (length t.names) none));

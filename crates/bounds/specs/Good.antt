@@ -4,7 +4,7 @@ use Rattle.rules.specs.Instr.{Instruction, shown}
 use Rattle.rules.specs.Machine.{SectionOrLine, unfixed, section, line, SectionCode}
 use Rattle.rules.specs.Script.{Stmts, nil, plain, goto, ite, Script}
 use Rattle.rules.specs.Assemble.{condJump}
-use Rattle.rules.specs.Demand.{All}
+use Rattle.rules.specs.Preservation.{All}
 
 -- ---- a script whose instructions are P, and whose gotos go by registers that are G; what stands behind a goto is not asked
 

@@ -8,7 +8,6 @@ use Rattle.std.proofs.lemmas.Bool.{eqb-false}
 use Rattle.rules.specs.Machine.{SectionCode}
 use Rattle.rules.specs.Script.{Stmts, nil, plain, goto, ite, Script}
 use Rattle.rules.specs.Assemble.{nextLine, orOne, sectionsMade, entry, link, inner, orEmpty, stmtSections, tailOf, heads}
-use Rattle.rules.specs.Lowered.{spans}
 
 pub length-orEmpty : (s : Stmts) (k : ℕ) (l : List SectionCode) → length l ≡ sectionsMade s → length (orEmpty s k l) ≡ orOne s (sectionsMade s)
 length-orEmpty nil k l h = refl
@@ -50,8 +49,3 @@ nextLine-lt L i h = go (eqb (suc i) L) refl
     go : (b : Bool) → eqb (suc i) L ≡ b → nextLine L i < L
     go true q = rw q (omega arith)
     go false q = rw q (omega (arith, eqb-false (suc i) L q))
-
-pub length-spans : (p : ℕ) (ts : List (List ℕ)) → length (spans p ts) ≡ length ts
-unfolding spans
-length-spans p [] = refl
-length-spans p (t ∷ ts) = ap suc (length-spans (p + length t) ts)

@@ -2,6 +2,7 @@
 use Rattle.std.specs.Prelude.{◌≡◌, refl, List, [], ◌∷◌, ℕ, zero, suc, ◌+◌, ◌*◌, ◌≤◌, ◌<◌, length, replicate}
 use Rattle.std.proofs.Common.{ap, arith}
 use Rattle.std.proofs.Math.Option.{none}
+use Rattle.rules.specs.Constants.{numbersANode, instrsANode, sectionsAStatement}
 use Rattle.rules.specs.Opcode as Op
 use Rattle.rules.specs.Tree.{Tree, Assignop, Expr, Block, Tally, ofExpr, ofBlock, ofLines}
 use Rattle.rules.specs.Tree.{Plain, AddTo, SubTo, MulTo, DivTo, ModTo, PowTo}
@@ -14,14 +15,14 @@ use Rattle.rules.specs.Assemble.{orOne, sectionsMade}
 use Rattle.rules.specs.CodegenData.{CodegenData, Lower, newNum, newStr, scoped}
 use Rattle.rules.specs.Operators.{getVariable, copyValreg, makeArithBinop, codegenIncdec}
 use Rattle.rules.specs.Annotate.{codegenFromExpr, store, assignBy, codegenFromAssign, condition, lineNumber, annotateStmts, annotateLines, fresh, annotate}
-use Rattle.rules.specs.Demand.{All}
+use Rattle.rules.specs.Preservation.{All}
 use Rattle.bounds.specs.Room.{Ok, ok₂, Room, code-grows, roomOf, NameBelow, Fine, Cost, cost, plus, Went, seq, within, room, went-here, went-emit, went-num, went-str}
-use Rattle.bounds.specs.Steps.{MadeVal, MadeNum, value_made, copy-made, copy-new, truthy-made, numberify-made, valueify-made, numbered-made, arith-made, binary-made, unary-made, incdec-made, last}
+use Rattle.bounds.specs.Steps.{MadeVal, MadeNum, value-made, copy-made, copy-new, truthy-made, numberify-made, valueify-made, numbered-made, arith-made, binary-made, unary-made, incdec-made, last}
 
 -- ---- expressions
 
 abbrev pub costOf : Tally → Cost
-costOf c = cost (2 * c.nodes) (9 * c.nodes) (3 * c.nodes) c.strings c.characters
+costOf c = cost (numbersANode * c.nodes) (instrsANode * c.nodes) (3 * c.nodes) c.strings c.characters
 
 pub expr-made : (e : Expr) (g : CodegenData) → Fine g → MadeVal (costOf (ofExpr e)) g (codegenFromExpr e g)
 unfolding codegenFromExpr ofExpr kinds rules lookup
@@ -61,7 +62,7 @@ expr-made (Expr.incdec b x) g f =
       reg = i.reg;
     }
 expr-made (ident x) g f =
-    let i = value_made g x f in
+    let i = value-made g x f in
     record {
       went = within (record { n = omega arith; k = omega arith; v = omega arith; s = refl; p = refl }) i.went;
       reg = i.reg;
@@ -122,7 +123,7 @@ assign-went x o e g f =
     let y = codegenFromExpr e g in
     let a = expr-made e g f in
     let z = getVariable x y.1 in
-    let b = value_made y.1 x a.went.fine in
+    let b = value-made y.1 x a.went.fine in
     seq a.went (seq b.went (assigned-went o z.1 b.went.fine z.0 y.0 b.reg (omega (arith, a.reg, b.went.values-up))))
 
 -- ---- apart from the code before it
@@ -146,7 +147,7 @@ owned c g f m w =
     let h = (m (clear g)).1 in
     record {
       went = record {
-        numbers_up = w.numbers_up;
+        numbers-up = w.numbers-up;
         numbers-most = w.numbers-most;
         code-most = omega arith;
         values-up = w.values-up;
@@ -177,17 +178,17 @@ whole-grows u w r (Stmts.ite o c t e s) h =
     (code-grows u w r o h.0, omega (arith, h.1), whole-grows u w r t h.2, whole-grows u w r e h.3, whole-grows u w r s h.4)
 
 -- How many instructions a list's sections have at most.
-abbrev pub code_of : Stmts → ℕ
-code_of nil = 0
-code_of (plain o s) = length o + code_of s
-code_of (Stmts.goto o r s) = length o + code_of s
-code_of (Stmts.ite o c t e s) = suc (length o) + (code_of t + (code_of e + code_of s))
+abbrev pub codeOf : Stmts → ℕ
+codeOf nil = 0
+codeOf (plain o s) = length o + codeOf s
+codeOf (Stmts.goto o r s) = length o + codeOf s
+codeOf (Stmts.ite o c t e s) = suc (length o) + (codeOf t + (codeOf e + codeOf s))
 
 pub record Made (c : Tally) (g : CodegenData) (x : Stmts × CodegenData) : Type 0 where
   pub went : Went (free (costOf c)) g x.1
   pub whole : Whole (roomOf x.1) x.0
-  pub size-most : sectionsMade x.0 ≤ 4 * c.statements
-  pub code-most : code_of x.0 ≤ 9 * c.nodes
+  pub size-most : sectionsMade x.0 ≤ sectionsAStatement * c.statements
+  pub code-most : codeOf x.0 ≤ instrsANode * c.nodes
 
 one-most : (s : Stmts) (n : ℕ) → orOne s n ≤ suc n
 one-most nil n = omega arith
@@ -195,20 +196,20 @@ one-most (plain o s) n = omega arith
 one-most (Stmts.goto o r s) n = omega arith
 one-most (Stmts.ite o c t e s) n = omega arith
 
-pub block_made : (b : Block) (g : CodegenData) → Fine g → Made (ofBlock b) g (annotateStmts b g)
+pub block-made : (b : Block) (g : CodegenData) → Fine g → Made (ofBlock b) g (annotateStmts b g)
 unfolding annotateStmts ofBlock
-block_made end g f =
+block-made end g f =
     record {
       went = within (record { n = omega arith; k = omega arith; v = omega arith; s = refl; p = refl }) (went-here g f);
       whole = tt;
       size-most = omega arith;
       code-most = omega arith;
     }
-block_made (Block.goto e xs) g f =
+block-made (Block.goto e xs) g f =
     let m = number-made e (clear g) (clear-fine g f) in
     let a = owned (plus (costOf (ofExpr e)) (cost 1 2 0 0 0)) g f (lineNumber e) m.went in
     let x = scoped (lineNumber e) g in
-    let b = block_made xs x.1 a.went.fine in
+    let b = block-made xs x.1 a.went.fine in
     let y = annotateStmts xs x.1 in
     let r = room b.went in
     record {
@@ -217,15 +218,15 @@ block_made (Block.goto e xs) g f =
       size-most = omega (arith, b.size-most);
       code-most = omega (arith, a.most, b.code-most);
     }
-block_made (Block.ite c t e xs) g f =
+block-made (Block.ite c t e xs) g f =
     let m = condition-made c (clear g) (clear-fine g f) in
     let a = owned (plus (costOf (ofExpr c)) (cost 1 1 0 0 0)) g f (condition c) m.went in
     let x = scoped (condition c) g in
-    let b = block_made t x.1 a.went.fine in
+    let b = block-made t x.1 a.went.fine in
     let y = annotateStmts t x.1 in
-    let d = block_made e y.1 b.went.fine in
+    let d = block-made e y.1 b.went.fine in
     let z = annotateStmts e y.1 in
-    let i = block_made xs z.1 d.went.fine in
+    let i = block-made xs z.1 d.went.fine in
     let w = annotateStmts xs z.1 in
     let r₃ = room i.went in
     let r₂ = room (seq d.went i.went) in
@@ -244,11 +245,11 @@ block_made (Block.ite c t e xs) g f =
       size-most = omega (arith, b.size-most, d.size-most, i.size-most, one-most y.0 (sectionsMade y.0), one-most z.0 (sectionsMade z.0));
       code-most = omega (arith, a.most, b.code-most, d.code-most, i.code-most);
     }
-block_made (Block.incdec i v xs) g f =
+block-made (Block.incdec i v xs) g f =
     let m = incdec-made (clear g) (clear-fine g f) i v in
     let a = owned (cost 0 2 1 0 0) g f (codegenIncdec i v) m.went in
     let x = scoped (codegenIncdec i v) g in
-    let b = block_made xs x.1 a.went.fine in
+    let b = block-made xs x.1 a.went.fine in
     let y = annotateStmts xs x.1 in
     record {
       went = within (record { n = omega arith; k = omega arith; v = omega arith; s = omega arith; p = omega arith }) (seq a.went b.went);
@@ -256,11 +257,11 @@ block_made (Block.incdec i v xs) g f =
       size-most = omega (arith, b.size-most);
       code-most = omega (arith, a.most, b.code-most);
     }
-block_made (assign v o e xs) g f =
+block-made (assign v o e xs) g f =
     let m = assign-went v o e (clear g) (clear-fine g f) in
     let a = owned (plus (costOf (ofExpr e)) (cost 2 8 2 0 0)) g f (codegenFromAssign v o e) m in
     let x = scoped (codegenFromAssign v o e) g in
-    let b = block_made xs x.1 a.went.fine in
+    let b = block-made xs x.1 a.went.fine in
     let y = annotateStmts xs x.1 in
     record {
       went = within (record { n = omega arith; k = omega arith; v = omega arith; s = omega arith; p = omega arith }) (seq a.went b.went);
@@ -277,14 +278,14 @@ sizes (s ∷ ss) = sectionsMade s + sizes ss
 
 abbrev pub codes : Script → ℕ
 codes [] = 0
-codes (s ∷ ss) = code_of s + codes ss
+codes (s ∷ ss) = codeOf s + codes ss
 
 pub record MadeAll (c : Tally) (l : ℕ) (g : CodegenData) (x : Script × CodegenData) : Type 0 where
   pub went : Went (free (costOf c)) g x.1
   pub whole : All (Whole (roomOf x.1)) x.0
   pub long : length x.0 ≡ l
-  pub size-most : sizes x.0 ≤ 4 * c.statements
-  pub code-most : codes x.0 ≤ 9 * c.nodes
+  pub size-most : sizes x.0 ≤ sectionsAStatement * c.statements
+  pub code-most : codes x.0 ≤ instrsANode * c.nodes
 
 pub lines-made : (bs : List Block) (g : CodegenData) → Fine g → MadeAll (ofLines bs) (length bs) g (annotateLines bs g)
 unfolding annotateLines ofLines
@@ -298,7 +299,7 @@ lines-made [] g f =
     }
 lines-made (b ∷ bs) g f =
     let x = annotateStmts b g in
-    let a = block_made b g f in
+    let a = block-made b g f in
     let y = annotateLines bs x.1 in
     let d = lines-made bs x.1 a.went.fine in
     record {
@@ -309,10 +310,10 @@ lines-made (b ∷ bs) g f =
       code-most = omega (arith, a.code-most, d.code-most);
     }
 
-no_names : (n : ℕ) → All (NameBelow 0) (replicate n none)
-no_names zero = tt
-no_names (suc n) = (tt, no_names n)
+no-names : (n : ℕ) → All (NameBelow 0) (replicate n none)
+no-names zero = tt
+no-names (suc n) = (tt, no-names n)
 
 pub annotate-made : (t : Tree) → MadeAll (ofLines t.lines) (length t.lines) (fresh (length t.names)) (annotate t)
 unfolding annotate fresh
-annotate-made t = lines-made t.lines (fresh (length t.names)) (record { instrs = tt; names = no_names (length t.names) })
+annotate-made t = lines-made t.lines (fresh (length t.names)) (record { instrs = tt; names = no-names (length t.names) })

@@ -4,7 +4,7 @@ use Rattle.std.proofs.Common.{sym, ap, ◌∙◌, arith, ltb-true, leb-true}
 use Rattle.rules.specs.Refusal as Refusal
 use Rattle.rules.specs.Bits.{Res, refused, ok}
 use Rattle.rules.specs.Tree.{Tree}
-use Rattle.rules.specs.Constants.{mostBytes}
+use Rattle.rules.specs.Constants.{mostBytes, headBits, nameBits, form}
 use Rattle.rules.specs.Parse.{Reader, At, succeed, ◌>>=◌, demand, bits, many, names, lineBlock, fill, body, file, parse}
 
 -- ---- a step that is passed, and what follows it
@@ -33,21 +33,21 @@ demanded false n s c x e = absurd (refused≢ok n x e)
 
 -- ---- lines
 
-abbrev length_of : {A : Type 0} → Res (List A × At) → ℕ
-length_of (refused n) = 0
-length_of (ok x) = length x.0
+abbrev lengthOf : {A : Type 0} → Res (List A × At) → ℕ
+lengthOf (refused n) = 0
+lengthOf (ok x) = length x.0
 
 pub many-length : {A : Type 0} (n : ℕ) (m : Reader A) (s : List ℕ) (c : At) (x : List A × At) → many n m s c ≡ ok x → length x.0 ≡ n
 unfolding many succeed
-many-length zero m s c x e = sym (ap length_of e)
+many-length zero m s c x e = sym (ap lengthOf e)
 many-length {A} (suc n) m s c x e =
     let p = passed m (λ a. many n m >>= λ as₁. succeed (a ∷ as₁)) s c x e in
     let q = passed (many n m) (λ as₁. succeed (p.val ∷ as₁)) s p.at x p.follows in
-    sym (ap length_of q.follows) ∙ ap suc (many-length n m s p.at (q.val, q.at) q.here)
+    sym (ap lengthOf q.follows) ∙ ap suc (many-length n m s p.at (q.val, q.at) q.here)
 
-abbrev lines_of : Res (Tree × At) → ℕ
-lines_of (refused n) = 0
-lines_of (ok x) = length x.0.lines
+abbrev linesOf : Res (Tree × At) → ℕ
+linesOf (refused n) = 0
+linesOf (ok x) = length x.0.lines
 
 body-lines : (l n : ℕ) (s : List ℕ) (c : At) (r : Tree × At) → body l n s c ≡ ok r → length r.0.lines ≡ l
 unfolding body succeed
@@ -55,44 +55,44 @@ body-lines l n s c r e =
     let p = passed (names n []) (λ t. many l (lineBlock n) >>= λ b. fill >>= λ z. succeed (record { names = t; lines = b })) s c r e in
     let q = passed (many l (lineBlock n)) (λ b. fill >>= λ z. succeed (record { names = p.val; lines = b })) s p.at r p.follows in
     let w = passed fill (λ z. succeed (record { names = p.val; lines = q.val })) s q.at r q.follows in
-    sym (ap lines_of w.follows) ∙ many-length l (lineBlock n) s p.at (q.val, q.at) q.here
+    sym (ap linesOf w.follows) ∙ many-length l (lineBlock n) s p.at (q.val, q.at) q.here
 
 file-lines : (s : List ℕ) (c : At) (r : Tree × At) → file s c ≡ ok r → 0 < length r.0.lines
 unfolding file
 file-lines s c r e =
-    let p₁ = passed (bits 8) (λ f. demand (eqb f 1) 1 >>= λ z. bits 8 >>= λ l. demand (ltb 0 l) 2 >>= λ y. bits 8 >>= λ n. body l n) s c r e in
-    let p₂ = passed (demand (eqb p₁.val 1) 1) (λ z. bits 8 >>= λ l. demand (ltb 0 l) 2 >>= λ y. bits 8 >>= λ n. body l n) s p₁.at r p₁.follows in
-    let p₃ = passed (bits 8) (λ l. demand (ltb 0 l) 2 >>= λ y. bits 8 >>= λ n. body l n) s p₂.at r p₂.follows in
+    let p₁ = passed (bits headBits) (λ f. demand (eqb f form) Refusal.otherForm >>= λ z. bits headBits >>= λ l. demand (ltb 0 l) Refusal.zeroLines >>= λ y. bits nameBits >>= λ n. body l n) s c r e in
+    let p₂ = passed (demand (eqb p₁.val form) Refusal.otherForm) (λ z. bits headBits >>= λ l. demand (ltb 0 l) Refusal.zeroLines >>= λ y. bits nameBits >>= λ n. body l n) s p₁.at r p₁.follows in
+    let p₃ = passed (bits headBits) (λ l. demand (ltb 0 l) Refusal.zeroLines >>= λ y. bits nameBits >>= λ n. body l n) s p₂.at r p₂.follows in
     let l = p₃.val in
-    let p₄ = passed (demand (ltb 0 l) 2) (λ y. bits 8 >>= λ n. body l n) s p₃.at r p₃.follows in
-    let p₅ = passed (bits 8) (λ n. body l n) s p₄.at r p₄.follows in
-    omega (arith, body-lines l p₅.val s p₅.at r p₅.follows, ltb-true 0 l (demanded (ltb 0 l) 2 s p₃.at (p₄.val, p₄.at) p₄.here))
+    let p₄ = passed (demand (ltb 0 l) Refusal.zeroLines) (λ y. bits nameBits >>= λ n. body l n) s p₃.at r p₃.follows in
+    let p₅ = passed (bits nameBits) (λ n. body l n) s p₄.at r p₄.follows in
+    omega (arith, body-lines l p₅.val s p₅.at r p₅.follows, ltb-true 0 l (demanded (ltb 0 l) Refusal.zeroLines s p₃.at (p₄.val, p₄.at) p₄.here))
 
 -- ---- the file
 
 pub record Parsed (s : List ℕ) (t : Tree) : Type 0 where
-  pub bytes : length s ≤ 32768
+  pub bytes : length s ≤ mostBytes
   pub at : At
   pub is : file s (record { pos = 0; nodes = 0 }) ≡ ok (t, at)
 
-abbrev tree_of : Tree → Res Tree → Tree
-tree_of d (refused n) = d
-tree_of d (ok t) = t
+abbrev treeOf : Tree → Res Tree → Tree
+treeOf d (refused n) = d
+treeOf d (ok t) = t
 
 pub parsed : (s : List ℕ) (t : Tree) → parse s ≡ ok t → Parsed s t
 unfolding parse
 parsed s t e = go (leb (length s) mostBytes) refl e
   where
-    inner : length s ≤ 32768 → (x : Res (Tree × At)) → file s (record { pos = 0; nodes = 0 }) ≡ x → elim x [ refused n ↦ refused n | ok r ↦ ok r.0 ] ≡ ok t → Parsed s t
+    inner : length s ≤ mostBytes → (x : Res (Tree × At)) → file s (record { pos = 0; nodes = 0 }) ≡ x → elim x [ refused n ↦ refused n | ok r ↦ ok r.0 ] ≡ ok t → Parsed s t
     inner h (refused n) p q = absurd (refused≢ok n t q)
-    inner h (ok r) p q = record { bytes = h; at = r.1; is = p ∙ ap (λ (z : Tree). ok (z, r.1)) (ap (tree_of t) q) }
+    inner h (ok r) p q = record { bytes = h; at = r.1; is = p ∙ ap (λ (z : Tree). ok (z, r.1)) (ap (treeOf t) q) }
 
     go : (b : Bool) → leb (length s) mostBytes ≡ b → elim b [
       | false ↦ refused Refusal.tooLong
       | true ↦ elim (file s (record { pos = 0; nodes = 0 })) [ refused n ↦ refused n | ok r ↦ ok r.0 ]
     ] ≡ ok t → Parsed s t
     go false p q = absurd (refused≢ok Refusal.tooLong t q)
-    go true p q = inner (leb-true (length s) 32768 p) (file s (record { pos = 0; nodes = 0 })) refl q
+    go true p q = inner (leb-true (length s) mostBytes p) (file s (record { pos = 0; nodes = 0 })) refl q
 
 pub some-line : (s : List ℕ) (t : Tree) → parse s ≡ ok t → 0 < length t.lines
 some-line s t e = let p = parsed s t e in file-lines s (record { pos = 0; nodes = 0 }) (t, p.at) p.is

@@ -8,7 +8,7 @@ use Rattle.rules.specs.Script.{Stmts, nil, plain, goto, ite, Script}
 use Rattle.rules.specs.Assemble.{condJump}
 use Rattle.rules.specs.Replace.{Rule, stays, goes, turns, number, result, blank, rules, lookup, ruleFor, ruleOf, Regs, replaceBy, replaceIns, replaceCode}
 use Rattle.rules.specs.Reading.{repAll, repFirst, repRest, firsts, rests, repScript}
-use Rattle.rules.specs.Demand.{All, FieldsBelow, RegistersBelow}
+use Rattle.rules.specs.Preservation.{All, FieldsBelow, RegistersBelow}
 use Rattle.bounds.specs.Good.{CodeGood, Good, GoodTree, GoodWhole}
 use Rattle.bounds.specs.Jumps.{aimed-other}
 use Rattle.laws.specs.Lists.{not-both, all-append}
@@ -110,15 +110,15 @@ module _ (u : Counts) (p : ℕ) where
 
   -- ---- lists
 
-  all_quiet : (s : Stmts) → Whole u s → (σ : Regs) → (repAll p σ s).1 ≡ σ
-  all_quiet nil h σ = refl
-  all_quiet (plain o s) h σ = all_quiet s h.1 (replaceCode p σ o).1 ∙ code-quiet o h.0 σ
-  all_quiet (goto o r s) h σ = all_quiet s h.2 (replaceCode p σ o).1 ∙ code-quiet o h.0 σ
-  all_quiet (ite o c t f s) h σ =
+  all-quiet : (s : Stmts) → Whole u s → (σ : Regs) → (repAll p σ s).1 ≡ σ
+  all-quiet nil h σ = refl
+  all-quiet (plain o s) h σ = all-quiet s h.1 (replaceCode p σ o).1 ∙ code-quiet o h.0 σ
+  all-quiet (goto o r s) h σ = all-quiet s h.2 (replaceCode p σ o).1 ∙ code-quiet o h.0 σ
+  all-quiet (ite o c t f s) h σ =
       let x = replaceCode p σ o in
       let a = repAll p x.1 t in
       let b = repAll p a.1 f in
-      all_quiet s h.4 b.1 ∙ (all_quiet f h.3 a.1 ∙ (all_quiet t h.2 x.1 ∙ code-quiet o h.0 σ))
+      all-quiet s h.4 b.1 ∙ (all-quiet f h.3 a.1 ∙ (all-quiet t h.2 x.1 ∙ code-quiet o h.0 σ))
 
   all-good : (s : Stmts) → Whole u s → (σ : Regs) → GoodWhole P G (repAll p σ s).0
   all-good nil h σ = tt
@@ -151,12 +151,12 @@ module _ (u : Counts) (p : ℕ) where
 
   rest-quiet : (s : Stmts) → Half s → (σ : Regs) → (repRest p σ s).1 ≡ σ
   rest-quiet nil h σ = refl
-  rest-quiet (plain o s) h σ = all_quiet s h.1 σ
-  rest-quiet (goto o r s) h σ = all_quiet s h.2 σ
+  rest-quiet (plain o s) h σ = all-quiet s h.1 σ
+  rest-quiet (goto o r s) h σ = all-quiet s h.2 σ
   rest-quiet (ite o c t f s) h σ =
       let a = repAll p σ t in
       let b = repAll p a.1 f in
-      all_quiet s h.4 b.1 ∙ (all_quiet f h.3 a.1 ∙ all_quiet t h.2 σ)
+      all-quiet s h.4 b.1 ∙ (all-quiet f h.3 a.1 ∙ all-quiet t h.2 σ)
 
   rest-good : (s : Stmts) → Half s → (σ : Regs) → GoodWhole P G (repRest p σ s).0
   rest-good nil h σ = tt

@@ -7,10 +7,10 @@ use Rattle.std.proofs.Math.ListN.{length}
 use Rattle.rules.specs.Instr.{Instruction, isJump, aimed, ins₁}
 use Rattle.rules.specs.Machine.{SectionOrLine, section, line, SectionCode, absent}
 use Rattle.rules.specs.Script.{Stmts, nil, plain, goto, ite, Script, isNil}
-use Rattle.rules.specs.Assemble.{nextLine, orOne, sectionsMade, ownCode, entry, link, condJump, cond_code, inner, orEmpty, stmtSections, head_of, tailOf, heads, tails, sectionsOf}
-use Rattle.rules.specs.Replace.{Rule, stays, goes, turns, number, result, blank, rules, lookup, ruleFor, ruleOf, Regs, replaceBy, replaceIns, replaceCode, with_code, replaceSections}
+use Rattle.rules.specs.Assemble.{nextLine, orOne, sectionsMade, ownCode, entry, link, condJump, condCode, inner, orEmpty, stmtSections, headOf, tailOf, heads, tails, sectionsOf}
+use Rattle.rules.specs.Replace.{Rule, stays, goes, turns, number, result, blank, rules, lookup, ruleFor, ruleOf, Regs, replaceBy, replaceIns, replaceCode, withCode, replaceSections}
 use Rattle.rules.specs.Reading.{repAll, repFirst, repRest, firsts, rests, repScript}
-use Rattle.rules.specs.Demand.{All}
+use Rattle.rules.specs.Preservation.{All}
 use Rattle.bounds.specs.Jumps.{aimed-other}
 
 -- ---- jumps stay
@@ -68,7 +68,7 @@ module _ (pl : ℕ) where
   rep-append σ [] b = refl
   rep-append σ (s ∷ a) b =
       let x = replaceCode pl σ s.instrs in
-      ap (λ (r : List SectionCode × Regs). (with_code s x.0 ∷ r.0, r.1)) (rep-append x.1 a b)
+      ap (λ (r : List SectionCode × Regs). (withCode s x.0 ∷ r.0, r.1)) (rep-append x.1 a b)
 
   ins-rep : (e : ℕ) (σ : Regs) (i : Instruction) → replaceIns pl σ (aimed e i) ≡ (map (aimed e) (replaceIns pl σ i).0, (replaceIns pl σ i).1)
   ins-rep e σ i = go (isJump i) refl
@@ -94,16 +94,16 @@ module _ (pl : ℕ) where
       let z = replaceCode pl y.1 d in
       ap (λ (r : List Instruction × Regs). (x.0 ++ r.0, r.1)) (code-append x.1 c d) ∙ ap (λ (l : List Instruction). (l, z.1)) (sym (append_assoc x.0 y.0 z.0))
 
-  cond-stays : (σ : Regs) (t : Stmts) (k n : ℕ) → replaceCode pl σ (cond_code t k n) ≡ (cond_code t k n, σ)
+  cond-stays : (σ : Regs) (t : Stmts) (k n : ℕ) → replaceCode pl σ (condCode t k n) ≡ (condCode t k n, σ)
   cond-stays σ nil k n = refl
   cond-stays σ (plain o s) k n = jump-alone pl σ (condJump n k) refl
   cond-stays σ (goto o r s) k n = jump-alone pl σ (condJump n k) refl
   cond-stays σ (ite o c t f s) k n = jump-alone pl σ (condJump n k) refl
 
   -- A conditional jump behind stays.
-  code-jump : (σ : Regs) (c : List Instruction) (t : Stmts) (k n : ℕ) → replaceCode pl σ (c ++ cond_code t k n) ≡ ((replaceCode pl σ c).0 ++ cond_code t k n, (replaceCode pl σ c).1)
+  code-jump : (σ : Regs) (c : List Instruction) (t : Stmts) (k n : ℕ) → replaceCode pl σ (c ++ condCode t k n) ≡ ((replaceCode pl σ c).0 ++ condCode t k n, (replaceCode pl σ c).1)
   code-jump σ c t k n =
-      code-append σ c (cond_code t k n) ∙ ap (λ (r : List Instruction × Regs). ((replaceCode pl σ c).0 ++ r.0, r.1)) (cond-stays (replaceCode pl σ c).1 t k n)
+      code-append σ c (condCode t k n) ∙ ap (λ (r : List Instruction × Regs). ((replaceCode pl σ c).0 ++ r.0, r.1)) (cond-stays (replaceCode pl σ c).1 t k n)
 
   isNil-rep : (σ : Regs) (s : Stmts) → isNil (repAll pl σ s).0 ≡ isNil s
   isNil-rep σ nil = refl
@@ -111,8 +111,8 @@ module _ (pl : ℕ) where
   isNil-rep σ (goto o r s) = refl
   isNil-rep σ (ite o c t f s) = refl
 
-  one_of : (s s' : Stmts) → isNil s' ≡ isNil s → sectionsMade s' ≡ sectionsMade s → orOne s' (sectionsMade s') ≡ orOne s (sectionsMade s)
-  one_of s s' p q = ap₂ (λ (b : Bool) (n : ℕ). cond b 1 n) p q
+  one-of : (s s' : Stmts) → isNil s' ≡ isNil s → sectionsMade s' ≡ sectionsMade s → orOne s' (sectionsMade s') ≡ orOne s (sectionsMade s)
+  one-of s s' p q = ap₂ (λ (b : Bool) (n : ℕ). cond b 1 n) p q
 
   size-rep : (σ : Regs) (s : Stmts) → sectionsMade (repAll pl σ s).0 ≡ sectionsMade s
   size-rep σ nil = refl
@@ -124,20 +124,20 @@ module _ (pl : ℕ) where
       let σ₃ = (repAll pl σ₂ f).1 in
       ap₂
       (λ (x y : ℕ). suc (x + y))
-      (one_of t (repAll pl σ₁ t).0 (isNil-rep σ₁ t) (size-rep σ₁ t))
-      (ap₂ (λ (x y : ℕ). x + suc y) (one_of f (repAll pl σ₂ f).0 (isNil-rep σ₂ f) (size-rep σ₂ f)) (size-rep σ₃ s))
+      (one-of t (repAll pl σ₁ t).0 (isNil-rep σ₁ t) (size-rep σ₁ t))
+      (ap₂ (λ (x y : ℕ). x + suc y) (one-of f (repAll pl σ₂ f).0 (isNil-rep σ₂ f) (size-rep σ₂ f)) (size-rep σ₃ s))
 
   one-rep : (σ : Regs) (s : Stmts) → orOne (repAll pl σ s).0 (sectionsMade (repAll pl σ s).0) ≡ orOne s (sectionsMade s)
-  one-rep σ s = one_of s (repAll pl σ s).0 (isNil-rep σ s) (size-rep σ s)
+  one-rep σ s = one-of s (repAll pl σ s).0 (isNil-rep σ s) (size-rep σ s)
 
   rep-two : (σ : Regs) (a b a' b' : List SectionCode) (σ₁ σ₂ : Regs) → replaceSections pl σ a ≡ (a', σ₁) → replaceSections pl σ₁ b ≡ (b', σ₂) → replaceSections pl σ (a ++ b) ≡ (a' ++ b', σ₂)
   rep-two σ a b a' b' σ₁ σ₂ p q =
       rep-append σ a b ∙ (ap (λ (x : List SectionCode × Regs). (x.0 ++ (replaceSections pl x.1 b).0, (replaceSections pl x.1 b).1)) p ∙ ap (λ (y : List SectionCode × Regs). (a' ++ y.0, y.1)) q)
 
   rep-cons : (σ : Regs) (s : SectionCode) (m : List SectionCode) (c : List Instruction) (m' : List SectionCode) (σ₁ σ₂ : Regs) → replaceCode pl σ s.instrs ≡ (c, σ₁) → replaceSections pl σ₁ m ≡ (m', σ₂)
-      → replaceSections pl σ (s ∷ m) ≡ (with_code s c ∷ m', σ₂)
+      → replaceSections pl σ (s ∷ m) ≡ (withCode s c ∷ m', σ₂)
   rep-cons σ s m c m' σ₁ σ₂ p q =
-      ap (λ (x : List Instruction × Regs). (with_code s x.0 ∷ (replaceSections pl x.1 m).0, (replaceSections pl x.1 m).1)) p ∙ ap (λ (r : List SectionCode × Regs). (with_code s c ∷ r.0, r.1)) q
+      ap (λ (x : List Instruction × Regs). (withCode s x.0 ∷ (replaceSections pl x.1 m).0, (replaceSections pl x.1 m).1)) p ∙ ap (λ (r : List SectionCode × Regs). (withCode s c ∷ r.0, r.1)) q
 
   abbrev LowRep : Stmts → Type 0
   LowRep s = (b : Bool) (e n k : ℕ) (σ : Regs) → replaceSections pl σ (stmtSections b e n k s) ≡ (stmtSections b e n k (repAll pl σ s).0, (repAll pl σ s).1)
@@ -159,7 +159,7 @@ module _ (pl : ℕ) where
       ++ (inner [] (link b (entry s (suc (suc n + zt + zf)) k)) ∷ stmtSections b e (suc (suc n + zt + zf)) k s))
 
   abbrev iteHead : ℕ → ℕ → List Instruction → ℕ → Stmts → ℕ → SectionCode
-  iteHead e n o c t zt = inner (ownCode e o ++ cond_code t c (suc n)) (section (suc n + zt))
+  iteHead e n o c t zt = inner (ownCode e o ++ condCode t c (suc n)) (section (suc n + zt))
 
   module _ (t f s : Stmts) (ht : LowRep t) (hf : LowRep f) (hs : LowRep s) (b : Bool) (e n k : ℕ) (σ₁ : Regs) where
     ite-tail : let a = repAll pl σ₁ t in
@@ -197,8 +197,8 @@ module _ (pl : ℕ) where
         (rep-two σ₂ B (J ∷ stmtSections b e (suc nj) k s) B' (J' ∷ stmtSections b e (suc nj) k s') σ₃ σ₄ (empty-rep f hf e nf nj σ₂) eC)
         ∙ ap₂ (λ (x y : ℕ). (iteTail b e n k t' f' s' x y, σ₄)) (sym (one-rep σ₁ t)) (sym (one-rep σ₂ f))
 
-  ite-head : (e n : ℕ) (o : List Instruction) (c : ℕ) (t : Stmts) (σ : Regs) → replaceCode pl σ (ownCode e o ++ cond_code t c (suc n)) ≡ (ownCode e (replaceCode pl σ o).0 ++ cond_code t c (suc n), (replaceCode pl σ o).1)
-  ite-head e n o c t σ = code-jump σ (ownCode e o) t c (suc n) ∙ ap (λ (x : List Instruction × Regs). (x.0 ++ cond_code t c (suc n), x.1)) (own-rep e σ o)
+  ite-head : (e n : ℕ) (o : List Instruction) (c : ℕ) (t : Stmts) (σ : Regs) → replaceCode pl σ (ownCode e o ++ condCode t c (suc n)) ≡ (ownCode e (replaceCode pl σ o).0 ++ condCode t c (suc n), (replaceCode pl σ o).1)
+  ite-head e n o c t σ = code-jump σ (ownCode e o) t c (suc n) ∙ ap (λ (x : List Instruction × Regs). (x.0 ++ condCode t c (suc n), x.1)) (own-rep e σ o)
 
   -- An Ite's first section, its then-list replaced.
   head-list : (e n : ℕ) (o : List Instruction) (c : ℕ) (t : Stmts) (σ : Regs)
@@ -221,7 +221,7 @@ module _ (pl : ℕ) where
       σ
       (iteHead e n o c t (orOne t (sectionsMade t)))
       (iteTail b e n k t f s (orOne t (sectionsMade t)) (orOne f (sectionsMade f)))
-      (ownCode e o' ++ cond_code t c (suc n))
+      (ownCode e o' ++ condCode t c (suc n))
       W'
       σ₁
       σ₄
@@ -246,14 +246,14 @@ module _ (pl : ℕ) where
 
   -- ---- the lines
 
-  head-code : (e n : ℕ) (σ : Regs) (s : Stmts) → replaceCode pl σ (head_of e (stmtSections true e n e s)).instrs ≡ ((head_of e (stmtSections true e n e (repFirst pl σ s).0)).instrs, (repFirst pl σ s).1)
+  head-code : (e n : ℕ) (σ : Regs) (s : Stmts) → replaceCode pl σ (headOf e (stmtSections true e n e s)).instrs ≡ ((headOf e (stmtSections true e n e (repFirst pl σ s).0)).instrs, (repFirst pl σ s).1)
   head-code e n σ nil = refl
   head-code e n σ (plain o s) = own-rep e σ o
   head-code e n σ (goto o r s) = own-rep e σ o
   head-code e n σ (ite o c t f s) = ite-head e n o c t σ
 
   head-sect : (e n : ℕ) (σ : Regs) (s : Stmts)
-      → with_code (head_of e (stmtSections true e n e s)) (head_of e (stmtSections true e n e (repFirst pl σ s).0)).instrs ≡ head_of e (stmtSections true e n e (repFirst pl σ s).0)
+      → withCode (headOf e (stmtSections true e n e s)) (headOf e (stmtSections true e n e (repFirst pl σ s).0)).instrs ≡ headOf e (stmtSections true e n e (repFirst pl σ s).0)
   head-sect e n σ nil = refl
   head-sect e n σ (plain o s) = refl
   head-sect e n σ (goto o r s) = refl
@@ -269,9 +269,9 @@ module _ (pl : ℕ) where
   heads-rep L i n σ [] = refl
   heads-rep L i n σ (s ∷ t) =
       let e = nextLine L i in
-      let h = head_of e (stmtSections true e n e s) in
+      let h = headOf e (stmtSections true e n e s) in
       let s' = (repFirst pl σ s).0 in
-      let h' = head_of e (stmtSections true e n e s') in
+      let h' = headOf e (stmtSections true e n e s') in
       let σ₁ = (repFirst pl σ s).1 in
       let t' = (firsts pl σ₁ t).0 in
       let σ₂ = (firsts pl σ₁ t).1 in
@@ -301,7 +301,7 @@ module _ (pl : ℕ) where
       let σ₃ = (repAll pl σ₂ f).1 in
       ap₂ (λ (x y : ℕ). suc (x + y)) (one-rep σ t) (ap₂ (λ (x y : ℕ). x + suc y) (one-rep σ₂ f) (size-rep σ₃ s))
 
-  head-rest : (e n : ℕ) (σ : Regs) (s : Stmts) → head_of e (stmtSections true e n e (repRest pl σ s).0) ≡ head_of e (stmtSections true e n e s)
+  head-rest : (e n : ℕ) (σ : Regs) (s : Stmts) → headOf e (stmtSections true e n e (repRest pl σ s).0) ≡ headOf e (stmtSections true e n e s)
   head-rest e n σ nil = refl
   head-rest e n σ (plain o s) = ap (λ (x : SectionOrLine). record { lineStart = true; instrs = ownCode e o; success = x }) (sym (link-rep true s (repAll pl σ s).0 (suc n) e (isNil-rep σ s)))
   head-rest e n σ (goto o r s) = refl
@@ -313,7 +313,7 @@ module _ (pl : ℕ) where
       let e = nextLine L i in
       let σ₁ = (repRest pl σ s).1 in
       ap₂ (λ (x : SectionCode) (k : ℕ). x ∷ heads L (suc i) (n + k) (rests pl σ₁ t).0) (head-rest e n σ s) (size-rest σ s)
-      ∙ ap (λ (l : List SectionCode). head_of e (stmtSections true e n e s) ∷ l) (heads-rest L (suc i) (n + sectionsMade s) σ₁ t)
+      ∙ ap (λ (l : List SectionCode). headOf e (stmtSections true e n e s) ∷ l) (heads-rest L (suc i) (n + sectionsMade s) σ₁ t)
 
   tail-rep : (e n : ℕ) (σ : Regs) (s : Stmts) → replaceSections pl σ (tailOf (stmtSections true e n e s)) ≡ (tailOf (stmtSections true e n e (repRest pl σ s).0), (repRest pl σ s).1)
   tail-rep e n σ nil = refl

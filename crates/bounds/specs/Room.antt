@@ -8,7 +8,7 @@ use Rattle.rules.specs.Tables.{Counts}
 use Rattle.rules.specs.Replace.{Rule, stays, goes, turns, number, result, blank, rules, lookup, ruleFor, ruleOf}
 use Rattle.rules.specs.CodegenData.{CodegenData, emit, newNum, newStr, newVal, bindName}
 use Rattle.rules.specs.Lowered.{texts}
-use Rattle.rules.specs.Demand.{All, FieldBelow, FieldsBelow, RegistersBelow}
+use Rattle.rules.specs.Preservation.{All, FieldBelow, FieldsBelow, RegistersBelow}
 use Rattle.laws.specs.Lists.{all-append, all-set}
 
 -- ---- instructions
@@ -112,7 +112,7 @@ plus a b = cost (a.n + b.n) (a.k + b.k) (a.v + b.v) (a.s + b.s) (a.p + b.p)
 
 -- From g to h.
 pub record Went (c : Cost) (g h : CodegenData) : Type 0 where
-  pub numbers_up : length g.numbers ≤ length h.numbers
+  pub numbers-up : length g.numbers ≤ length h.numbers
   pub numbers-most : length h.numbers ≤ length g.numbers + c.n
   pub code-most : length h.instrs ≤ length g.instrs + c.k
   pub values-up : g.values ≤ h.values
@@ -125,7 +125,7 @@ pub record Went (c : Cost) (g h : CodegenData) : Type 0 where
 pub seq : {a b : Cost} {g h i : CodegenData} → Went a g h → Went b h i → Went (plus a b) g i
 seq w x =
     record {
-      numbers_up = omega arith;
+      numbers-up = omega arith;
       numbers-most = omega arith;
       code-most = omega arith;
       values-up = omega arith;
@@ -146,7 +146,7 @@ pub record Most (a b : Cost) : Type 0 where
 pub within : {a b : Cost} {g h : CodegenData} → Most a b → Went a g h → Went b g h
 within m w =
     record {
-      numbers_up = w.numbers_up;
+      numbers-up = w.numbers-up;
       numbers-most = omega arith;
       code-most = omega arith;
       values-up = w.values-up;
@@ -158,7 +158,7 @@ within m w =
     }
 
 pub room : {c : Cost} {g h : CodegenData} → Went c g h → Room (roomOf g) (roomOf h)
-room w = record { numbers = w.numbers_up; strings = omega arith; values = w.values-up }
+room w = record { numbers = w.numbers-up; strings = omega arith; values = w.values-up }
 
 -- ---- one change each
 
@@ -167,7 +167,7 @@ grew : {c : Cost} {g h : CodegenData} → length h.numbers ≡ length g.numbers 
     → length h.strings ≡ length g.strings + c.s → length (texts h.strings) ≡ length (texts g.strings) + c.p → length h.names ≡ length g.names → Fine h → Went c g h
 grew n k v s p m f =
     record {
-      numbers_up = omega arith;
+      numbers-up = omega arith;
       numbers-most = omega arith;
       code-most = omega arith;
       values-up = omega arith;

@@ -15,7 +15,7 @@ use Rattle.rules.specs.Assemble.{sectionsOf}
 use Rattle.rules.specs.Replace.{Regs, replaceSections}
 use Rattle.rules.specs.Reading.{script}
 use Rattle.rules.specs.Lowered.{Options, spans, texts, assemble, lowered}
-use Rattle.rules.specs.Demand.{All, RegistersBelow}
+use Rattle.rules.specs.Preservation.{All, RegistersBelow}
 use Rattle.bounds.specs.Good.{GoodWhole}
 use Rattle.bounds.specs.ReplaceScript.{lower-rep, length-rep}
 use Rattle.bounds.specs.Room.{Room, roomOf}
@@ -40,9 +40,9 @@ module _ (o : Options) (t : Tree) where
   regs-stay = ap (λ (x : List SectionCode × Regs). x.1) (lower-rep pl σ ss) ∙ script-quiet (roomOf g) pl ss (annotate-made t).whole σ
 
   -- Replacement adds no number and no string register.
-  pub numbers_stay : (lowered o t).numbers ≡ (assemble o t).numbers
+  pub numbers-stay : (lowered o t).numbers ≡ (assemble o t).numbers
   unfolding lowered
-  numbers_stay = ap (λ (r : Regs). r.numbers) regs-stay
+  numbers-stay = ap (λ (r : Regs). r.numbers) regs-stay
 
   pub strings-stay : (lowered o t).strings ≡ (assemble o t).strings
   unfolding lowered

@@ -13,7 +13,7 @@ use Rattle.rules.specs.Instr.{canRuntimeErr, ins₁, ins₂, ins₃, Kind, unuse
 use Rattle.rules.specs.Replace.{rules, lookup}
 use Rattle.rules.specs.CodegenData.{CodegenData, emit, newNum, newVal, bindName}
 use Rattle.rules.specs.Operators.{errorJump, getVariable, copyValreg, makeTruthy, numberify, makeVal, makeLogicBinop, guard, makeArithBinop, makeCmpBinop, makeNe, applyInPlace, applyBinop, makeNot, applyInNumber, applyUnop, incdecOp, codegenIncdec}
-use Rattle.rules.specs.Demand.{All, FieldBelow}
+use Rattle.rules.specs.Preservation.{All, FieldBelow}
 use Rattle.bounds.specs.Room.{adds, Ok, ok₁, ok₂, ok₃, field-grows, roomOf, NameBelow, Fine, Cost, cost, Went, seq, Most, within, room, went-here, went-emit, went-num, went-val, went-bind}
 
 -- A step that gives a value register, and one that gives a number register.
@@ -35,9 +35,9 @@ name-at v [] h x = tt
 name-at v (n ∷ l) h zero = h.0
 name-at v (n ∷ l) h (suc x) = name-at v l h.1 x
 
-pub value_made : (g : CodegenData) (x : ℕ) → Fine g → MadeVal (cost 0 0 1 0 0) g (getVariable x g)
+pub value-made : (g : CodegenData) (x : ℕ) → Fine g → MadeVal (cost 0 0 1 0 0) g (getVariable x g)
 unfolding getVariable
-value_made g x f = go (get_or g.names x none) (name-at g.values g.names f.names x)
+value-made g x f = go (get_or g.names x none) (name-at g.values g.names f.names x)
   where
     go : (o : Option ℕ) → NameBelow g.values o → MadeVal (cost 0 0 1 0 0) g (elim o [ some v ↦ (v, g) | none ↦ bindName x g ])
     go none h = record { went = went-bind g x f; reg = omega arith }
@@ -244,7 +244,7 @@ pub incdec-made : (g : CodegenData) → Fine g → (b : Bool) (x : ℕ) → Made
 unfolding codegenIncdec
 incdec-made g f b x =
     let y = getVariable x g in
-    let a = value_made g x f in
+    let a = value-made g x f in
     let h = (emit (ins₁ (incdecOp b) y.0) y.1).1 in
     let c = went-emit y.1 (ins₁ (incdecOp b) y.0) a.went.fine (ok-incdec y.1 b y.0 a.reg) in
     let d = went-emit h errorJump c.fine (ok-error h) in

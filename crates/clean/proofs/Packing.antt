@@ -7,8 +7,8 @@ use native.Mathlib.Omega.{arith}
 use native.Mathlib.Numerals.{add-one}
 use lib.ListN.{length, take, drop, get_or, set, length-set}
 use lib.Seq.{slice, slice-cons, slice_empty, append_snoc, drop-drop, take-take}
-use Rattle.tables.specs.Runs.{fixed_word, count_of, total, Down}
-use Rattle.tables.proofs.InPlace.{set-taken, set-left, set_rest, drop-take, drop-later, slice-same}
+use Rattle.tables.specs.Runs.{fixedWord, countOf, total, Down}
+use Rattle.tables.proofs.InPlace.{set-taken, set-left, set-rest, drop-take, drop-later, slice-same}
 use Rattle.clean.specs.Pass.{packedWord, packed, moved, Kept}
 
 -- i words read, m kept, a instructions passed, b kept
@@ -21,7 +21,7 @@ pub record Packing (ss is : List ℕ) (n e : ℕ) (s t : List ℕ) (i m a b : �
   pub m-i : m ≤ i
   pub b-a : b ≤ a
   pub i-n : i ≤ n
-  pub s_len : length s ≡ length ss
+  pub s-len : length s ≡ length ss
   pub t-len : length t ≡ length is
 
 module _ (ss is : List ℕ) (n e : ℕ) (s t : List ℕ) (i m a b : ℕ) (p : Packing ss is n e s t i m a b) where
@@ -47,12 +47,12 @@ module _ (ss is : List ℕ) (n e : ℕ) (s t : List ℕ) (i m a b : ℕ) (p : Pa
     next : slice i n s ≡ get_or s i 0 ∷ slice (i + 1) n s
     next = rw add-one (slice-cons i n s 0 h l)
 
-    pub pack-left : a + (count_of (get_or s i 0) + total (slice (i + 1) n s)) ≡ e
+    pub pack-left : a + (countOf (get_or s i 0) + total (slice (i + 1) n s)) ≡ e
     unfolding total
     pack-left = rw next at p.left
 
-    module _ (c : ℕ) (c-is : c ≡ count_of (get_or s i 0)) where
-      pub pack-skip : fixed_word (get_or s i 0) ≡ false → Packing ss is n e s t (i + 1) m (a + c) b
+    module _ (c : ℕ) (c-is : c ≡ countOf (get_or s i 0)) where
+      pub pack-skip : fixedWord (get_or s i 0) ≡ false → Packing ss is n e s t (i + 1) m (a + c) b
       unfolding packed moved
       pack-skip u =
           let w = p.m-i in
@@ -67,12 +67,12 @@ module _ (ss is : List ℕ) (n e : ℕ) (s t : List ℕ) (i m a b : ℕ) (p : Pa
             m-i = omega arith;
             b-a = omega arith;
             i-n = omega arith;
-            s_len = p.s_len;
+            s-len = p.s-len;
             t-len = p.t-len;
           }
 
       module _ (v : ℕ) (o : v ≡ packedWord b (get_or s i 0)) (t' : List ℕ) (d : Down t t' a b c) (tl : length t' ≡ length t) where
-        pub pack-keep : fixed_word (get_or s i 0) ≡ true → Packing ss is n e (set s m v) t' (i + 1) (m + 1) (a + c) (b + c)
+        pub pack-keep : fixedWord (get_or s i 0) ≡ true → Packing ss is n e (set s m v) t' (i + 1) (m + 1) (a + c) (b + c)
         unfolding packed moved
         pack-keep u =
             let w = p.m-i in
@@ -85,13 +85,13 @@ module _ (ss is : List ℕ) (n e : ℕ) (s t : List ℕ) (i m a b : ℕ) (p : Pa
             let f : a + c ≤ e = omega arith in
             record {
               done = rw (r, set-taken s m n v g l, o) (append_snoc (take m s) (packedWord b (get_or s i 0)) (packed (b + c) (slice (i + 1) n s)) ∙ rw (next, u, ← c-is) at p.done);
-              rest = set_rest s m n v g l ∙ p.rest;
+              rest = set-rest s m n v g l ∙ p.rest;
               code = rw (r, d.front, append_assoc, slice-same (a + c) e t' t d.back) (rw (next, u, ← c-is, drop-drop, drop-take a e t, take-take c (e - a) (drop a t) k) at p.code);
               tail = drop-later (a + c) e t' t d.back f ∙ p.tail;
               left = rw r (omega arith);
               m-i = omega arith;
               b-a = omega arith;
               i-n = omega arith;
-              s_len = simp length-set p.s_len;
+              s-len = simp length-set p.s-len;
               t-len = tl ∙ p.t-len;
             }

@@ -7,12 +7,12 @@ use Rattle.rules.specs.Tables.{successOf, runWords, allCode, runOf}
 use Rattle.rules.specs.Clean.{renIns, renNext, rank, cleanSections}
 use Rattle.rules.specs.Operations.{put}
 use Rattle.words.specs.Runs as Runs
-use Rattle.tables.specs.Runs.{fixed_word, count_of, held}
+use Rattle.tables.specs.Runs.{fixedWord, countOf, held}
 
 -- ---- words made anew
 
-unfoldable pub first_of : ℕ → ℕ
-first_of w = (wordRun w).first
+unfoldable pub firstOf : ℕ → ℕ
+firstOf w = (wordRun w).first
 
 unfoldable pub withFirst : ℕ → ℕ → ℕ
 withFirst k w = runWord (Runs.withFirst k (wordRun w))
@@ -28,7 +28,7 @@ withJump f w = insWord (renIns f (wordIns w))
 
 -- the sections kept up to and including w, k before it
 unfoldable pub bump : ℕ → ℕ → ℕ
-bump k w = cond (fixed_word w) (k + 1) k
+bump k w = cond (fixedWord w) (k + 1) k
 
 unfoldable pub bumps : ℕ → List ℕ → ℕ
 bumps k [] = k
@@ -56,11 +56,11 @@ packedWord k w = runWord (runOf (isOne (wordRun w).lineStart) (successOf (wordRu
 -- the kept words, runs from instruction k on; and their instructions
 unfoldable pub packed : ℕ → List ℕ → List ℕ
 packed k [] = []
-packed k (w ∷ ws) = cond (fixed_word w) (packedWord k w ∷ packed (k + count_of w) ws) (packed k ws)
+packed k (w ∷ ws) = cond (fixedWord w) (packedWord k w ∷ packed (k + countOf w) ws) (packed k ws)
 
 unfoldable pub moved : List ℕ → List ℕ → List ℕ
 moved [] is = []
-moved (w ∷ ws) is = cond (fixed_word w) (take (count_of w) is ++ moved ws (drop (count_of w) is)) (moved ws (drop (count_of w) is))
+moved (w ∷ ws) is = cond (fixedWord w) (take (countOf w) is ++ moved ws (drop (countOf w) is)) (moved ws (drop (countOf w) is))
 
 -- m kept sections, b instructions
 pub record Kept (ss is ss' is' : List ℕ) (n e m b : ℕ) : Type 0 where
@@ -96,4 +96,4 @@ pub record Cleaned (ss is ss' is' : List ℕ) (n e m b : ℕ) : Type 0 where
 
 -- an instruction that jumps jumps to one of the n sections that is fixed
 unfoldable pub jumpIn : List ℕ → ℕ → ℕ → Bool
-jumpIn ss n w = cond (isJump (wordIns w)) (cond (ltb (wordIns w).fst n) (fixed_word (get_or ss (wordIns w).fst 0)) false) true
+jumpIn ss n w = cond (isJump (wordIns w)) (cond (ltb (wordIns w).fst n) (fixedWord (get_or ss (wordIns w).fst 0)) false) true

@@ -17,7 +17,7 @@ use words::instr::Instruction;
 use words::section::SectionWord;
 
 // A jump's target is one of the n sections and fixed.
-#[tactic(auto, unfolding(crate::specs::Pass::jumpIn, tables::specs::Runs::fixed_word))]
+#[tactic(auto, unfolding(crate::specs::Pass::jumpIn, tables::specs::Runs::fixedWord))]
 fn jump_fixed(sections: &[u64], n: usize, w: Instruction) -> bool
     requires { n ≤ length sections.now }
     ensures { result ≡ jumpIn sections.now n w.0 }

@@ -1,16 +1,17 @@
 // The new numbers of sections: while cleaning runs, the first-instruction field of each section's word carries the number of sections kept
 // up to and including it. Asks that the counted words lie inside the table and that there are at most 65,535.
+ghost use Rattle.rules.specs.Constants.{mostCount};
 ghost use Rattle.std.specs.Prelude.{◌≡◌, map, ◌≤◌, ◌<◌, ◌+◌, pred, length};
-ghost use Rattle.clean.specs.Pass.{bump, newNumber, first_of, Numbered};
+ghost use Rattle.clean.specs.Pass.{bump, newNumber, firstOf, Numbered};
 
 use tables::word::is_fixed;
 use words::instr::Section;
 use words::section::SectionWord;
 
 // The sections kept up to and including w, k before it.
-#[tactic(auto, unfolding(crate::specs::Pass::bump, tables::specs::Runs::fixed_word))]
+#[tactic(auto, unfolding(crate::specs::Pass::bump, tables::specs::Runs::fixedWord))]
 fn bump(k: u16, w: SectionWord) -> u16
-    requires { k < 65535 }
+    requires { k < mostCount }
     ensures { (result ≡ bump k w.0) × (result ≤ k + 1) }
 {
     if is_fixed(w) {
@@ -21,7 +22,7 @@ fn bump(k: u16, w: SectionWord) -> u16
 
 // Each word numbered; all that are kept are handed back.
 pub fn number(sections: &mut [u64], n: usize) -> u16
-    requires { (n ≤ length sections.old) × (n ≤ 65535) }
+    requires { (n ≤ length sections.old) × (n ≤ mostCount) }
     ensures { Numbered sections.old sections.new n result }
 {
     let mut i: usize = 0;
@@ -45,7 +46,7 @@ fn one_less(k: u16) -> u16
 #[tactic(auto, using(crate::proofs::Single::first_at), unfolding(crate::specs::Pass::newNumber))]
 pub fn new_number(sections: &[u64], n: usize, kept: u16, t: Section) -> Section
     requires { n ≤ length sections.now }
-    ensures { result.0 ≡ newNumber (map first_of sections.now) n kept t.0 }
+    ensures { result.0 ≡ newNumber (map firstOf sections.now) n kept t.0 }
 {
     let at = t.0 as usize;
     if at >= n {

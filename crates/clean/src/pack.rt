@@ -1,5 +1,6 @@
 // Kept sections and their runs move down over the removed ones, and the words that are freed are zeroed. Asks that the counted words lie
 // inside the tables and that the runs cover the counted instructions.
+ghost use Rattle.rules.specs.Constants.{mostCount};
 ghost use Rattle.std.specs.Prelude.{◌≡◌, ◌≤◌, length, take};
 ghost use Rattle.tables.specs.Runs.{total};
 ghost use Rattle.clean.specs.Pass.{Kept, Packed};
@@ -17,7 +18,7 @@ pub struct Room {
 
 // Each run's first instruction is written anew.
 fn pack_down(sections: &mut [u64], instructions: &mut [u64], n: usize, e: usize) -> Room
-    requires { (n ≤ length sections.old) × (e ≤ length instructions.old) × (e ≤ 65535) × (total (take n sections.old) ≡ e) }
+    requires { (n ≤ length sections.old) × (e ≤ length instructions.old) × (e ≤ mostCount) × (total (take n sections.old) ≡ e) }
     ensures { Kept sections.old instructions.old sections.new instructions.new n e result.sections result.instructions }
 {
     let mut i: usize = 0;
@@ -47,7 +48,7 @@ fn pack_down(sections: &mut [u64], instructions: &mut [u64], n: usize, e: usize)
 }
 
 pub fn pack(sections: &mut [u64], instructions: &mut [u64], n: usize, e: usize) -> Room
-    requires { (n ≤ length sections.old) × (e ≤ length instructions.old) × (e ≤ 65535) × (total (take n sections.old) ≡ e) }
+    requires { (n ≤ length sections.old) × (e ≤ length instructions.old) × (e ≤ mostCount) × (total (take n sections.old) ≡ e) }
     ensures { Packed sections.old instructions.old sections.new instructions.new n e result.sections result.instructions }
 {
     let r = pack_down(sections, instructions, n, e);

@@ -1,5 +1,6 @@
 // remove_unfixed_sections of yogi's optimize, in place and without scratch, shown to leave the words of `cleanSections` of `rules` and
 // zeros behind them. Asks that the words hold a machine: counts that keep the rules, runs that cover the counted instructions.
+ghost use Rattle.rules.specs.Constants.{mostCount};
 ghost use Rattle.std.specs.Prelude.{◌≡◌, ◌≤◌, length, take};
 ghost use Rattle.tables.specs.Runs.{total};
 ghost use Rattle.clean.specs.Pass.{Renumbered, Cleaned};
@@ -9,7 +10,7 @@ use crate::pack::{Room, pack};
 use crate::retarget::{retarget_instructions, retarget_sections};
 
 fn renumber(sections: &mut [u64], instructions: &mut [u64], n: usize, e: usize)
-    requires { (n ≤ length sections.old) × (n ≤ 65535) × (e ≤ length instructions.old) }
+    requires { (n ≤ length sections.old) × (n ≤ mostCount) × (e ≤ length instructions.old) }
     ensures { Renumbered sections.old instructions.old sections.new instructions.new n e }
 {
     let kept = number(sections, n);
@@ -24,7 +25,7 @@ pub fn remove_unfixed_sections(
     n: usize,
     e: usize,
 ) -> Room
-    requires { (n ≤ length sections.old) × (n ≤ 65535) × (e ≤ length instructions.old) × (e ≤ 65535) × (total (take n sections.old) ≡ e) }
+    requires { (n ≤ length sections.old) × (n ≤ mostCount) × (e ≤ length instructions.old) × (e ≤ mostCount) × (total (take n sections.old) ≡ e) }
     ensures { Cleaned sections.old instructions.old sections.new instructions.new n e result.sections result.instructions }
 {
     renumber(sections, instructions, n, e);

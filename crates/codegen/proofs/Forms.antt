@@ -9,9 +9,9 @@ use Rattle.rules.specs.CodegenData.{pure, emit, newNum, newVal}
 use Rattle.rules.specs.Operators.{errorJump, getVariable, copyValreg, makeTruthy, numberify, makeVal, makeLogicBinop, guard, makeArithBinop, makeCmpBinop, makeNe, applyInPlace, makeNot, applyInNumber, incdecOp, codegenIncdec}
 use Rattle.codegen.specs.Does.{◌▷◌}
 
-pub as_copy : (r : ℕ) → copyValreg r ≡ (newVal ▷ λ v. emit (ins₂ Op.CopyVal r v) ▷ λ _. pure v)
+pub as-copy : (r : ℕ) → copyValreg r ≡ (newVal ▷ λ v. emit (ins₂ Op.CopyVal r v) ▷ λ _. pure v)
 unfolding copyValreg ◌▷◌
-as_copy r = refl
+as-copy r = refl
 
 pub as-truthy : (r : ℕ) → makeTruthy r ≡ (newNum (pos 0) ▷ λ n. emit (ins₂ Op.IsTruthyVal r n) ▷ λ _. pure n)
 unfolding makeTruthy ◌▷◌

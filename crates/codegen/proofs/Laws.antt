@@ -22,7 +22,9 @@ use Rattle.words.specs.Told.{Shape}
 use Rattle.codegen.specs.declared.state.Counters.{Counters}
 use Rattle.codegen.specs.Does.{wordTo, regWord, Lent, lent, Base, Stands, Went, Does, DoesNone, DoesCode, DoesNums, ◌▷◌}
 use Rattle.codegen.specs.Costs.{plus-instr, plus-number, plus-string, guardCost}
-use Rattle.codegen.proofs.Lists.{sets-start, sets_more, map-append, length-map, length_more, texts-more, spans-more, length-spans, name-read, name-stored, below-stored}
+use Rattle.laws.specs.Texts.{length-spans}
+use Rattle.std.proofs.lemmas.List.{map-append, length-map}
+use Rattle.codegen.proofs.Lists.{sets-start, sets-more, length-more, texts-more, spans-more, name-read, name-stored, below-stored}
 
 -- ---- the two laws of all steps
 
@@ -49,12 +51,12 @@ emitted {c = c} {is = is} i {w} e =
         res = refl;
         stands = record {
           err = s.err;
-          at = rw length_more (omega arith);
+          at = rw length-more (omega arith);
           numbers = s.numbers;
           strings = s.strings;
           chars = s.chars;
           values = s.values;
-          instr-words = rw (e, s.err, map-append) (sets_more _ is (map (wordTo b.err) g.instrs) b.at c.at _ s.instr-words (rw length-map s.at));
+          instr-words = rw (e, s.err, map-append) (sets-more _ is (map (wordTo b.err) g.instrs) b.at c.at _ s.instr-words (rw length-map s.at));
           number-words = s.number-words;
           string-words = s.string-words;
           pool-words = s.pool-words;
@@ -74,12 +76,12 @@ numbered {c = c} {ns = ns} z =
         stands = record {
           err = s.err;
           at = s.at;
-          numbers = rw length_more (omega arith);
+          numbers = rw length-more (omega arith);
           strings = s.strings;
           chars = s.chars;
           values = s.values;
           instr-words = s.instr-words;
-          number-words = sets_more _ ns g.numbers 0 c.numbers z s.number-words (rw zero-add s.numbers);
+          number-words = sets-more _ ns g.numbers 0 c.numbers z s.number-words (rw zero-add s.numbers);
           string-words = s.string-words;
           pool-words = s.pool-words;
           name-words = s.name-words;
@@ -100,12 +102,12 @@ lettered {c = c} {ss = ss} {ps = ps} x {h} {w} q e =
           err = s.err;
           at = s.at;
           numbers = s.numbers;
-          strings = rw length_more (omega arith);
+          strings = rw length-more (omega arith);
           chars = rw (texts-more, length-append) (omega arith);
           values = s.values;
           instr-words = s.instr-words;
           number-words = s.number-words;
-          string-words = rw (e, s.chars, q, spans-more, zero-add, map-append) (sets_more _ ss (map spanWord (spans 0 g.strings)) 0 c.strings _ s.string-words (rw (zero-add, length-map, length-spans) s.strings));
+          string-words = rw (e, s.chars, q, spans-more, zero-add, map-append) (sets-more _ ss (map spanWord (spans 0 g.strings)) 0 c.strings _ s.string-words (rw (zero-add, length-map, length-spans) s.strings));
           pool-words = rw (s.pool-words, s.chars, texts-more) (sets-start (texts g.strings) b.tables.pool x);
           name-words = s.name-words;
           named = s.named;

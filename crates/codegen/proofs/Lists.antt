@@ -5,7 +5,7 @@ use mathlib.Core.Option.{Option, none, some}
 use Prim.Native.Nat.{ℕ, zero, suc, ◌+◌, ◌<◌}
 use native.Mathlib.Nat.{add-zero, zero-add, add_assoc}
 use native.Mathlib.Omega.{arith}
-use lib.ListN.{length, set, get_or, get_elem?, length-append}
+use lib.ListN.{length, set, get_or, length-append}
 use lib.Seq.{sets}
 use Rattle.laws.specs.Stores.{sets-sets}
 use Rattle.rules.specs.Lowered.{spans, texts}
@@ -17,25 +17,11 @@ pub sets-start : {A : Type 0} (vs l ws : List A) → sets (sets l 0 vs) (length 
 sets-start vs l ws = rw zero-add at (sets-sets vs l 0 ws)
 
 -- one more store
-pub sets_more : {A : Type 0} (l t vs : List A) (i k : ℕ) (w : A) → t ≡ sets l i vs → k ≡ i + length vs → set t k w ≡ sets l i (vs ++ (w ∷ []))
-sets_more l t vs i k w e h = rw (e, h) (sets-sets vs l i (w ∷ []))
+pub sets-more : {A : Type 0} (l t vs : List A) (i k : ℕ) (w : A) → t ≡ sets l i vs → k ≡ i + length vs → set t k w ≡ sets l i (vs ++ (w ∷ []))
+sets-more l t vs i k w e h = rw (e, h) (sets-sets vs l i (w ∷ []))
 
-pub map-append : {A B : Type 0} (f : A → B) (xs ys : List A) → map f (xs ++ ys) ≡ map f xs ++ map f ys
-map-append f [] ys = refl
-map-append f (x ∷ xs) ys = ap (λ l. f x ∷ l) (map-append f xs ys)
-
-pub length-map : {A B : Type 0} (f : A → B) (xs : List A) → length (map f xs) ≡ length xs
-length-map f [] = refl
-length-map f (x ∷ xs) = ap suc (length-map f xs)
-
-pub length_more : {A : Type 0} (xs : List A) (x : A) → length (xs ++ (x ∷ [])) ≡ length xs + 1
-length_more xs x = length-append xs (x ∷ [])
-
--- an element that is there, by either reading
-pub found : {A : Type 0} (l : List A) (i : ℕ) (d a : A) → get_elem? l i ≡ some a → get_or l i d ≡ a
-found [] i d a e = absurd (let z : ◌≡◌ {A = ℕ} 0 1 = cc in omega arith)
-found (x ∷ l) zero d a e = cc
-found (x ∷ l) (suc i) d a e = found l i d a e
+pub length-more : {A : Type 0} (xs : List A) (x : A) → length (xs ++ (x ∷ [])) ≡ length xs + 1
+length-more xs x = length-append xs (x ∷ [])
 
 -- ---- texts
 
@@ -52,11 +38,6 @@ pub spans-more : (p : ℕ) (ts : List (List ℕ)) (t : List ℕ) → spans p (ts
 unfolding spans texts
 spans-more p [] t = rw add-zero
 spans-more p (u ∷ ts) t = rw (spans-more (p + length u) ts t, length-append, add_assoc)
-
-pub length-spans : (p : ℕ) (ts : List (List ℕ)) → length (spans p ts) ≡ length ts
-unfolding spans
-length-spans p [] = refl
-length-spans p (t ∷ ts) = ap suc (length-spans (p + length t) ts)
 
 -- ---- names
 

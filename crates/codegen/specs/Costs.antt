@@ -1,4 +1,5 @@
 -- How far the counters go, and what room that takes.
+use Rattle.rules.specs.Constants.{mostCount}
 use Rattle.std.specs.Prelude.{◌≡◌, Bool, true, false, ℕ, ◌+◌, ◌≤◌}
 use Rattle.rules.specs.Tree.{Binop, Unop}
 use Rattle.rules.specs.Tree.{And, Or, Add, Sub, Mul, Div, Mod, Pow, Eq, Ne, Le, Lt, Ge, Gt}
@@ -38,8 +39,8 @@ pub record Spent (c c' : Counters) (i n v s h : ℕ) : Type 0 where
 pub record Room (c : Counters) (i n v il nl : ℕ) : Type 0 where
   pub at : c.at + i ≤ il
   pub numbers : c.numbers + n ≤ nl
-  pub numbers_fit : c.numbers + n ≤ 65535
-  pub values-fit : c.values + v ≤ 65535
+  pub numbers-fit : c.numbers + n ≤ mostCount
+  pub values-fit : c.values + v ≤ mostCount
 
 -- the instructions of an error jump that is there or not
 unfoldable pub guardCost : Bool → ℕ

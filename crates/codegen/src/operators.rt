@@ -2,6 +2,7 @@
 //
 // Each function is shown to do what the step of its name in `rules` (Operators) does, and to take so many instructions. A caller owes
 // room (`Room`) for them, and an opcode of the shape that is emitted (`Shape`).
+ghost use Rattle.rules.specs.Constants.{mostCount};
 ghost use Rattle.std.specs.Prelude.{◌≡◌, ℕ, ◌+◌, ◌≤◌, ◌<◌, length, get_or};
 ghost use Rattle.rules.specs.Tree as Tree;
 ghost use Rattle.rules.specs.Opcode as Op;
@@ -98,7 +99,7 @@ pub fn unop_of(k: u64) -> Unop
 // A copy of a value register.
 #[tactic(auto, unfolding(rules::specs::Instr::kinds, rules::specs::Instr::table))]
 pub fn copy_valreg(instrs: &mut [u64], c: Counters, r: ValReg) -> GotVal
-    requires { (c.at < length instrs.old) × (c.values < 65535) }
+    requires { (c.at < length instrs.old) × (c.values < mostCount) }
     ensures spent { Spent c result.next 1 0 1 0 0 }
     ensures does { DoesCode (copyValreg r.0) c instrs.old instrs.new result.reg.0 result.next }
 {
@@ -149,7 +150,7 @@ pub fn numberify(instrs: &mut [u64], numbers: &mut [i64], c: Counters, r: ValReg
 
 // A number as a value.
 pub fn make_val(instrs: &mut [u64], c: Counters, r: NumReg) -> GotVal
-    requires { (c.at < length instrs.old) × (c.values < 65535) }
+    requires { (c.at < length instrs.old) × (c.values < mostCount) }
     ensures spent { Spent c result.next 1 0 1 0 0 }
     ensures does { DoesCode (makeVal Op.ValueifyNum r.0) c instrs.old instrs.new result.reg.0 result.next }
 {
@@ -161,7 +162,7 @@ pub fn make_val(instrs: &mut [u64], c: Counters, r: NumReg) -> GotVal
 
 // A string as a value.
 pub fn make_val_of_str(instrs: &mut [u64], c: Counters, r: StrReg) -> GotVal
-    requires { (c.at < length instrs.old) × (c.values < 65535) }
+    requires { (c.at < length instrs.old) × (c.values < mostCount) }
     ensures spent { Spent c result.next 1 0 1 0 0 }
     ensures does { DoesCode (makeVal Op.ValueifyStr r.0) c instrs.old instrs.new result.reg.0 result.next }
 {
@@ -413,7 +414,7 @@ pub fn codegen_incdec(
     inc: bool,
     x: usize,
 ) -> GotVal
-    requires { (c.at + 2 ≤ length instrs.old) × (x < length names.old) × (c.values < 65535) }
+    requires { (c.at + 2 ≤ length instrs.old) × (x < length names.old) × (c.values < mostCount) }
     ensures spent { Spent c result.next 2 0 1 0 0 }
     ensures does { (n : ℕ) → x < n → DoesNamed n (codegenIncdec inc x) c instrs.old instrs.new names.old names.new result.reg.0 result.next }
 {

@@ -4,6 +4,7 @@
 // Each step is shown to do what the step of its name in `rules` (CodegenData, Operators) does. A caller owes room in the table, and
 // counts below 65,535. The counters are lent to the thin functions `emit_at`, `take_num`, `take_str` and `take_val`, which change them in
 // their place; `emit_word`, `new_num`, `new_strreg` and `new_val` lend them and pass them on by value.
+ghost use Rattle.rules.specs.Constants.{mostCount};
 ghost use Rattle.std.specs.Prelude.{◌≡◌, ℕ, ◌+◌, ◌≤◌, ◌<◌, length, set};
 ghost use Rattle.rules.specs.Instr.{Instruction as Ins};
 ghost use Rattle.rules.specs.CodegenData.{emit as emitS, newNum, newVal};
@@ -61,7 +62,7 @@ fn put_instr(instrs: &mut [u64], n: usize, w: Instruction) -> usize
 }
 
 fn put_num(numbers: &mut [i64], n: u16, z: i64) -> u16
-    requires { (n < length numbers.old) × (n < 65535) }
+    requires { (n < length numbers.old) × (n < mostCount) }
     ensures { (numbers.new ≡ set numbers.old n z) × (result ≡ n + 1) }
 {
     let i = index(n);
@@ -81,7 +82,7 @@ pub fn emit_at(instrs: &mut [u64], c: &mut Counters, w: Instruction)
 
 // A number register that starts as z, in lent counters.
 pub fn take_num(numbers: &mut [i64], c: &mut Counters, z: i64) -> NumReg
-    requires { (c.old.numbers < length numbers.old) × (c.old.numbers < 65535) }
+    requires { (c.old.numbers < length numbers.old) × (c.old.numbers < mostCount) }
     ensures { (result.0 ≡ c.old.numbers) × (numbers.new ≡ set numbers.old c.old.numbers z) × (c.new ≡ plus-number c.old) }
 {
     let n = c.numbers;
@@ -92,7 +93,7 @@ pub fn take_num(numbers: &mut [i64], c: &mut Counters, z: i64) -> NumReg
 
 // A string register of n characters, in lent counters.
 pub fn take_str(c: &mut Counters, n: u16) -> StrReg
-    requires { (c.old.strings < 65535) × (c.old.chars + n ≤ 65535) }
+    requires { (c.old.strings < mostCount) × (c.old.chars + n ≤ mostCount) }
     ensures { (result.0 ≡ c.old.strings) × (c.new ≡ plus-string n c.old) }
 {
     let k = c.strings;
@@ -104,7 +105,7 @@ pub fn take_str(c: &mut Counters, n: u16) -> StrReg
 
 // A value register, in lent counters.
 pub fn take_val(c: &mut Counters) -> ValReg
-    requires { c.old.values < 65535 }
+    requires { c.old.values < mostCount }
     ensures { (result.0 ≡ c.old.values) × (c.new ≡ plus-value c.old) }
 {
     let v = c.values;
@@ -133,7 +134,7 @@ pub fn emit(instrs: &mut [u64], c: Counters, w: Instruction) -> Counters
 
 // A number register that starts as z.
 pub fn new_num(numbers: &mut [i64], c: Counters, z: i64) -> GotNum
-    requires { (c.numbers < length numbers.old) × (c.numbers < 65535) }
+    requires { (c.numbers < length numbers.old) × (c.numbers < mostCount) }
     ensures spent { Spent c result.next 0 1 0 0 0 }
     ensures does { DoesNums (newNum z) c numbers.old numbers.new result.reg.0 result.next }
 {
@@ -144,7 +145,7 @@ pub fn new_num(numbers: &mut [i64], c: Counters, z: i64) -> GotNum
 
 // A string register of n characters.
 pub fn new_strreg(c: Counters, n: u16) -> GotStr
-    requires { (c.strings < 65535) × (c.chars + n ≤ 65535) }
+    requires { (c.strings < mostCount) × (c.chars + n ≤ mostCount) }
     ensures { (result.reg.0 ≡ c.strings) × (result.next ≡ plus-string n c) }
 {
     let mut d = c;
@@ -154,7 +155,7 @@ pub fn new_strreg(c: Counters, n: u16) -> GotStr
 
 // A value register.
 pub fn new_val(c: Counters) -> GotVal
-    requires { c.values < 65535 }
+    requires { c.values < mostCount }
     ensures spent { Spent c result.next 0 0 1 0 0 }
     ensures does { DoesNone newVal c result.reg.0 result.next }
 {
@@ -165,7 +166,7 @@ pub fn new_val(c: Counters) -> GotVal
 
 // A name's value register: a new one where it is met for the first time.
 pub fn get_variable(names: &mut [u16], c: Counters, x: usize) -> GotVal
-    requires { (x < length names.old) × (c.values < 65535) }
+    requires { (x < length names.old) × (c.values < mostCount) }
     ensures spent { Spent c result.next 0 0 1 0 0 }
     ensures does { (n : ℕ) → x < n → DoesNames n (getVariable x) c names.old names.new result.reg.0 result.next }
 {

@@ -7,11 +7,11 @@ use Rattle.rules.specs.Word.{wordRun, wordIns}
 use Rattle.rules.specs.Machine.{SectionOrLine, unfixed, section, line}
 use Rattle.rules.specs.Tables.{successOf, readSections}
 use Rattle.rules.specs.Combine.{hit, refsNext, refsIns, refsCode, refs}
-use Rattle.tables.specs.Runs.{count_of, total, sectionOf}
+use Rattle.tables.specs.Runs.{countOf, total, sectionOf}
 use Rattle.tables.proofs.Read.{read-nil, read-cons, total-nil, total-cons}
-use Rattle.combine.specs.Counting.{next_of, hits, refsNexts, refsJumps}
+use Rattle.combine.specs.Counting.{nextOf, hits, refsNexts, refsJumps}
 
-next-hits : (t : ℕ) (x : SectionOrLine) → refsNext t x ≡ hits t (next_of x)
+next-hits : (t : ℕ) (x : SectionOrLine) → refsNext t x ≡ hits t (nextOf x)
 next-hits t unfixed = refl
 next-hits t (section u) = refl
 next-hits t (line r) = refl
@@ -47,15 +47,15 @@ unfolding refsJumps
 jumps-nil t [] h = refl
 jumps-nil t (i ∷ is) h = absurd (omega arith)
 
-pub one_code : (w : ℕ) (is : List ℕ) → (sectionOf w is).instrs ≡ map wordIns (take (count_of w) is)
-unfolding count_of
-one_code w is = refl
+pub one-code : (w : ℕ) (is : List ℕ) → (sectionOf w is).instrs ≡ map wordIns (take (countOf w) is)
+unfolding countOf
+one-code w is = refl
 
 -- all references of what the words hold
 pub refs-are : (t : ℕ) (ws is : List ℕ) → total ws ≡ length is → refs t (readSections ws is) ≡ refsNexts t ws + refsJumps t is
 refs-are t [] is h = rw read-nil (omega (arith, nexts-nil t, jumps-nil t is (sym total-nil ∙ h)))
 refs-are t (w ∷ ws) is h =
-    let c = count_of w in
+    let c = countOf w in
     let l : total ws ≡ length (drop c is) = omega (arith, total-cons w ws, length-drop c is) in
     let two : refsJumps t is ≡ refsJumps t (take c is) + refsJumps t (drop c is) = ap (refsJumps t) (sym (take-append-drop c is)) ∙ jumps-append t (take c is) (drop c is) in
-    rw read-cons (omega (arith, refs-are t ws (drop c is) l, two, ap (refsCode t) (one_code w is) ∙ code-hits t (take c is), nexts-cons t w ws))
+    rw read-cons (omega (arith, refs-are t ws (drop c is) l, two, ap (refsCode t) (one-code w is) ∙ code-hits t (take c is), nexts-cons t w ws))

@@ -82,8 +82,8 @@ module _ (s i : List ℕ) (n e : ℕ) (s' i' : List ℕ) (left s1 : ℕ) (g : Go
   held-is : held s' i' left e ≡ g.ss
   held-is = holds-held s' i' left e g.ss g.holds
 
-  pub going_done : left ≤ s1 → Combined s i s' i' n e (combineSections (held s i n e)) left
-  going_done h =
+  pub going-done : left ≤ s1 → Combined s i s' i' n e (combineSections (held s i n e)) left
+  going-done h =
       let z : length g.ss ≡ left = g.holds.count in
       let w = g.within in
       let q : s1 ≡ length g.ss = omega arith in
@@ -92,8 +92,8 @@ module _ (s i : List ℕ) (n e : ℕ) (s' i' : List ℕ) (left s1 : ℕ) (g : Go
       subst (λ (x : List SectionCode). Combined s i s' i' n e x left) r (record { tables = g.changed; count = sym z; code = sym g.holds.code; fewer = g.fewer })
 
   module _ (h : s1 < left) where
-    pub going_on : none ≡ mate (held s' i' left e) s1 (get_or (held s' i' left e) s1 absent).success → Going s i n e s' i' left (s1 + 1)
-    going_on m =
+    pub going-on : none ≡ mate (held s' i' left e) s1 (get_or (held s' i' left e) s1 absent).success → Going s i n e s' i' left (s1 + 1)
+    going-on m =
         record {
           ss = g.ss;
           holds = g.holds;

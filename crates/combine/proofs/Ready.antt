@@ -1,5 +1,5 @@
 -- A machine that keeps the rules and that combine does not refuse, in tables: what `combine_all` asks holds, and what the words hold is the
--- machine: `ready`. What the tables are afterwards: `written_over`. So a caller that has written such a machine needs no check. Assumes nothing.
+-- machine: `ready`. What the tables are afterwards: `written-over`. So a caller that has written such a machine needs no check. Assumes nothing.
 use Rattle.std.specs.Prelude.{◌≡◌, refl, Bool, true, false, ℕ, suc, ◌-◌, ◌≤◌, max, length, take, drop, replicate}
 use Rattle.std.proofs.Common.{sym, ap, ◌∙◌, arith, drop_at}
 use mathlib.Core.List.{List, [], ◌∷◌, ◌++◌, map}
@@ -13,7 +13,7 @@ use Rattle.rules.specs.Machine.{SectionCode, Machine}
 use Rattle.rules.specs.Tables.{Tables, Counts, allb, runWords, allCode, countsOf}
 use Rattle.rules.specs.Operations.{put, fixedHere, allAhead, combineIn}
 use Rattle.rules.specs.Combine.{combined}
-use Rattle.rules.specs.Demand.{All}
+use Rattle.rules.specs.Preservation.{All}
 use Rattle.laws.specs.Words.{InsSmall}
 use Rattle.machines.specs.Fits.{Held, Counted, SectFit, AllAt, MachineFit, ins-small, next-small}
 use Rattle.tables.specs.Runs.{held}
@@ -94,8 +94,8 @@ put-over n k ws us t h l m =
     let a : max n k ≡ n = max-eq_left m in
     rw (drop_at us (replicate (n - length us) 0 ++ drop (max n (length us)) t) k h, h, l, a)
 
-pub written_over : (s₀ i₀ s i s' i' : List ℕ) (n₀ e₀ n e r : ℕ) (ss ts : List SectionCode) → Written s₀ i₀ s i n₀ e₀ ss → length ss ≡ n → length (allCode ss) ≡ e → n ≤ n₀ → e ≤ e₀ → Combined s i s' i' n e ts r → Written s₀ i₀ s' i' n₀ e₀ ts
-written_over s₀ i₀ s i s' i' n₀ e₀ n e r ss ts w hn he ln le c =
+pub written-over : (s₀ i₀ s i s' i' : List ℕ) (n₀ e₀ n e r : ℕ) (ss ts : List SectionCode) → Written s₀ i₀ s i n₀ e₀ ss → length ss ≡ n → length (allCode ss) ≡ e → n ≤ n₀ → e ≤ e₀ → Combined s i s' i' n e ts r → Written s₀ i₀ s' i' n₀ e₀ ts
+written-over s₀ i₀ s i s' i' n₀ e₀ n e r ss ts w hn he ln le c =
     let few : length (runWords 0 ts) ≤ n = omega (arith, words-length 0 ts, c.count, c.fewer) in
     record {
       sections = c.tables.sections ∙ (ap (put 0 n (runWords 0 ts)) w.sections ∙ put-twice n₀ n (runWords 0 ts) (runWords 0 ss) s₀ (words-length 0 ss ∙ hn) few ln);

@@ -13,29 +13,29 @@ use Rattle.rules.specs.Word.{wordRun}
 use Rattle.rules.specs.Machine.{SectionOrLine, unfixed, section, line, SectionCode, absent}
 use Rattle.rules.specs.Tables.{allb, successOf, readSections}
 use Rattle.rules.specs.Operations.{fixedHere, nextAhead, allAhead}
-use Rattle.tables.specs.Runs.{count_of, sectionOf, fixed_word}
-use Rattle.tables.proofs.Read.{read-nil, read-cons, all_nil, all_cons, fixed-is}
+use Rattle.tables.specs.Runs.{countOf, sectionOf, fixedWord}
+use Rattle.tables.proofs.Read.{read-nil, read-cons, all-nil, all-cons, fixed-is}
 use Rattle.laws.specs.Lists.{at-elem}
-use Rattle.combine.specs.Tests.{start_at, nextIn, wordsAhead}
+use Rattle.combine.specs.Tests.{startAt, nextIn, wordsAhead}
 
 -- ---- 14
 
-pub fixed-are : (ws is : List ℕ) → allb fixedHere (readSections ws is) ≡ allb fixed_word ws
-fixed-are [] is = rw read-nil (all_nil fixedHere ∙ sym (all_nil fixed_word))
-fixed-are (w ∷ ws) is = rw (read-cons, all_cons fixedHere (sectionOf w is) (readSections ws (drop (count_of w) is)) _ (fixed-is w is), all_cons fixed_word w ws _ refl, fixed-are ws (drop (count_of w) is))
+pub fixed-are : (ws is : List ℕ) → allb fixedHere (readSections ws is) ≡ allb fixedWord ws
+fixed-are [] is = rw read-nil (all-nil fixedHere ∙ sym (all-nil fixedWord))
+fixed-are (w ∷ ws) is = rw (read-cons, all-cons fixedHere (sectionOf w is) (readSections ws (drop (countOf w) is)) _ (fixed-is w is), all-cons fixedWord w ws _ refl, fixed-are ws (drop (countOf w) is))
 
 -- ---- 15
 
 -- what stands at t of what words hold
-elem_at : (ws is : List ℕ) (t : ℕ) → t < length ws → (s : SectionCode) × (get_elem? (readSections ws is) t ≡ some s) × (s.lineStart ≡ isOne (wordRun (get_or ws t 0)).lineStart) × (s.success ≡ successOf (wordRun (get_or ws t 0)))
-elem_at [] is t h = absurd (omega arith)
-elem_at (w ∷ ws) is zero h = rw read-cons (_, refl, refl, refl)
-elem_at (w ∷ ws) is (suc t) h = rw read-cons (elem_at ws (drop (count_of w) is) t (omega arith))
+elem-at : (ws is : List ℕ) (t : ℕ) → t < length ws → (s : SectionCode) × (get_elem? (readSections ws is) t ≡ some s) × (s.lineStart ≡ isOne (wordRun (get_or ws t 0)).lineStart) × (s.success ≡ successOf (wordRun (get_or ws t 0)))
+elem-at [] is t h = absurd (omega arith)
+elem-at (w ∷ ws) is zero h = rw read-cons (_, refl, refl, refl)
+elem-at (w ∷ ws) is (suc t) h = rw read-cons (elem-at ws (drop (countOf w) is) t (omega arith))
 
-elem_past : (ws is : List ℕ) (t : ℕ) → length ws ≤ t → get_elem? (readSections ws is) t ≡ none
-elem_past [] is t h = rw read-nil
-elem_past (w ∷ ws) is zero h = absurd (omega arith)
-elem_past (w ∷ ws) is (suc t) h = rw read-cons (elem_past ws (drop (count_of w) is) t (omega arith))
+elem-past : (ws is : List ℕ) (t : ℕ) → length ws ≤ t → get_elem? (readSections ws is) t ≡ none
+elem-past [] is t h = rw read-nil
+elem-past (w ∷ ws) is zero h = absurd (omega arith)
+elem-past (w ∷ ws) is (suc t) h = rw read-cons (elem-past ws (drop (countOf w) is) t (omega arith))
 
 -- the line start and the successor of section t
 module _ (s i : List ℕ) (n : ℕ) (h : n ≤ length s) (t : ℕ) where
@@ -45,26 +45,26 @@ module _ (s i : List ℕ) (n : ℕ) (h : n ≤ length s) (t : ℕ) where
 
     pub start-at : (get_or (readSections (take n s) i) t absent).lineStart ≡ isOne (wordRun (get_or s t 0)).lineStart
     start-at =
-        let e = elem_at (take n s) i t long in
+        let e = elem-at (take n s) i t long in
         ap (λ (x : SectionCode). x.lineStart) (at-elem (readSections (take n s) i) t absent e.0 e.1) ∙ (e.2 ∙ ap (λ (w : ℕ). isOne (wordRun w).lineStart) (get_or-take n s t 0 k))
 
     pub success-at : (get_or (readSections (take n s) i) t absent).success ≡ successOf (wordRun (get_or s t 0))
     success-at =
-        let e = elem_at (take n s) i t long in
+        let e = elem-at (take n s) i t long in
         ap (λ (x : SectionCode). x.success) (at-elem (readSections (take n s) i) t absent e.0 e.1) ∙ (e.3 ∙ ap (λ (w : ℕ). successOf (wordRun w)) (get_or-take n s t 0 k))
 
 module _ (s i : List ℕ) (n : ℕ) (h : n ≤ length s) where
   next-is : (k : ℕ) (x : SectionOrLine) → nextAhead (readSections (take n s) i) k x ≡ nextIn s n k x
-  unfolding nextAhead start_at
+  unfolding nextAhead startAt
   next-is k unfixed = refl
   next-is k (section t) = go (ltb t n) refl
     where
       go : (b : Bool) → ltb t n ≡ b → elim (get_elem? (readSections (take n s) i) t) as (λ z. Bool) [ none ↦ true | some x ↦ x.lineStart || leb k t ] ≡ cond b (isOne (wordRun (get_or s t 0)).lineStart) true || leb k t
       go true e =
           let p = ltb-true t n e in
-          let q = elem_at (take n s) i t (omega (arith, length-take-le n s h)) in
+          let q = elem-at (take n s) i t (omega (arith, length-take-le n s h)) in
           rw (q.1, q.2, get_or-take n s t 0 p)
-      go false e = rw (elem_past (take n s) i t (omega (arith, length-take-le n s h, ltb-false t n e)))
+      go false e = rw (elem-past (take n s) i t (omega (arith, length-take-le n s h, ltb-false t n e)))
   next-is k (line r) = refl
 
   aheads-cons : (k : ℕ) (x : SectionCode) (xs : List SectionCode) → allAhead (readSections (take n s) i) k (x ∷ xs) ≡ cond (nextAhead (readSections (take n s) i) k x.success) (allAhead (readSections (take n s) i) (suc k) xs) false
@@ -87,4 +87,4 @@ module _ (s i : List ℕ) (n : ℕ) (h : n ≤ length s) where
   ahead-from k [] is = ap (allAhead (readSections (take n s) i) k) (read-nil is) ∙ aheads-nil k
   ahead-from k (w ∷ ws) is =
       ap (allAhead (readSections (take n s) i) k) (read-cons w ws is)
-      ∙ rw (aheads-cons k (sectionOf w is) (readSections ws (drop (count_of w) is)), words-cons k w ws, next-is k (successOf (wordRun w)), ahead-from (suc k) ws (drop (count_of w) is))
+      ∙ rw (aheads-cons k (sectionOf w is) (readSections ws (drop (countOf w) is)), words-cons k w ws, next-is k (successOf (wordRun w)), ahead-from (suc k) ws (drop (countOf w) is))

@@ -4,7 +4,7 @@ use Rattle.std.proofs.Math.Seq.{slice, slice-cons, slice_empty}
 use Rattle.rules.specs.Instr.{getSection}
 use Rattle.rules.specs.Word.{wordRun, wordIns}
 use Rattle.rules.specs.Tables.{successOf}
-use Rattle.combine.specs.Counting.{next_of, hits, refsNexts, refsJumps}
+use Rattle.combine.specs.Counting.{nextOf, hits, refsNexts, refsJumps}
 use Rattle.combine.specs.Tests.{wordAhead, wordsAhead}
 
 module _ (t : ℕ) (s : List ℕ) (i n : ℕ) where
@@ -12,7 +12,7 @@ module _ (t : ℕ) (s : List ℕ) (i n : ℕ) where
   unfolding refsNexts
   nexts_none a b = let e : i ≡ n = omega arith in rw (e, slice_empty)
 
-  pub nexts_more : i < n → n ≤ length s → refsNexts t (slice i n s) ≡ hits t (next_of (successOf (wordRun (get_or s i 0)))) + refsNexts t (slice (i + 1) n s)
+  pub nexts_more : i < n → n ≤ length s → refsNexts t (slice i n s) ≡ hits t (nextOf (successOf (wordRun (get_or s i 0)))) + refsNexts t (slice (i + 1) n s)
   unfolding refsNexts
   nexts_more h l = rw (slice-cons i n s 0 h l, add-one)
 

@@ -18,9 +18,9 @@ use Rattle.join.specs.Held.{Sound}
 use Rattle.join.proofs.Joins.{enough, enough-code}
 use Rattle.join.proofs.Back.{holds-tell}
 use Rattle.join.proofs.Tells.{tell-total}
-use Rattle.combine.specs.Counting.{next_of, refsNexts, refsJumps}
+use Rattle.combine.specs.Counting.{nextOf, refsNexts, refsJumps}
 use Rattle.combine.proofs.Counted.{refs-are}
-use Rattle.combine.specs.Tests.{start_at, nextIn, wordAhead}
+use Rattle.combine.specs.Tests.{startAt, nextIn, wordAhead}
 use Rattle.combine.proofs.Tests.{start-at, success-at}
 
 module _ (s i : List ℕ) (n e : ℕ) (h : Sound s i n e) where
@@ -48,8 +48,8 @@ module _ (s i : List ℕ) (n e : ℕ) (h : Sound s i n e) where
     unfolding held
     starts = start-at s (take e i) n long s2 q
 
-    pub not_start : true ≡ isOne (wordRun (get_or s s2 0)).lineStart → false ≡ mayTake (held s i n e) s1 s2
-    not_start z = rw (ne_eqb s1 s2 p, starts, ← z)
+    pub not-start : true ≡ isOne (wordRun (get_or s s2 0)).lineStart → false ≡ mayTake (held s i n e) s1 s2
+    not-start z = rw (ne_eqb s1 s2 p, starts, ← z)
 
     pub by-refs : false ≡ isOne (wordRun (get_or s s2 0)).lineStart → (c : Bool) → c ≡ eqb (refs s2 (held s i n e)) 1 → c ≡ mayTake (held s i n e) s1 s2
     by-refs z c c-is = c-is ∙ rw (ne_eqb s1 s2 p, starts, ← z)
@@ -61,48 +61,48 @@ module _ (s i : List ℕ) (n e : ℕ) (h : Sound s i n e) where
     unfolding held
     success-is = success-at s (take e i) n long s1 k
 
-    pub no-next : none ≡ next_of (successOf (wordRun (get_or s s1 0))) → none ≡ mate (held s i n e) s1 (get_or (held s i n e) s1 absent).success
-    no-next q = rw success-is (none_of (successOf (wordRun (get_or s s1 0))) q)
+    pub no-next : none ≡ nextOf (successOf (wordRun (get_or s s1 0))) → none ≡ mate (held s i n e) s1 (get_or (held s i n e) s1 absent).success
+    no-next q = rw success-is (none-of (successOf (wordRun (get_or s s1 0))) q)
       where
-        none_of : (y : SectionOrLine) → none ≡ next_of y → none ≡ mate (held s i n e) s1 y
-        none_of unfixed q = refl
-        none_of (section t) q = cc
-        none_of (line r) q = refl
+        none-of : (y : SectionOrLine) → none ≡ nextOf y → none ≡ mate (held s i n e) s1 y
+        none-of unfixed q = refl
+        none-of (section t) q = cc
+        none-of (line r) q = refl
 
-    pub takes : (s2 : ℕ) → some s2 ≡ next_of (successOf (wordRun (get_or s s1 0))) → (b : Bool) → b ≡ mayTake (held s i n e) s1 s2 → cond b (some s2) none ≡ mate (held s i n e) s1 (get_or (held s i n e) s1 absent).success
-    takes s2 q b m = rw success-is (some_of (successOf (wordRun (get_or s s1 0))) q)
+    pub takes : (s2 : ℕ) → some s2 ≡ nextOf (successOf (wordRun (get_or s s1 0))) → (b : Bool) → b ≡ mayTake (held s i n e) s1 s2 → cond b (some s2) none ≡ mate (held s i n e) s1 (get_or (held s i n e) s1 absent).success
+    takes s2 q b m = rw success-is (some-of (successOf (wordRun (get_or s s1 0))) q)
       where
-        some_of : (y : SectionOrLine) → some s2 ≡ next_of y → cond b (some s2) none ≡ mate (held s i n e) s1 y
-        some_of unfixed q = cc
-        some_of (section t) q = let z : s2 ≡ t = cc in rw (m, z)
-        some_of (line r) q = cc
+        some-of : (y : SectionOrLine) → some s2 ≡ nextOf y → cond b (some s2) none ≡ mate (held s i n e) s1 y
+        some-of unfixed q = cc
+        some-of (section t) q = let z : s2 ≡ t = cc in rw (m, z)
+        some-of (line r) q = cc
 
 -- ---- 15
 
 module _ (s : List ℕ) (n i w : ℕ) where
-  pub ahead_none : none ≡ next_of (successOf (wordRun w)) → true ≡ wordAhead s n i w
+  pub ahead-none : none ≡ nextOf (successOf (wordRun w)) → true ≡ wordAhead s n i w
   unfolding wordAhead
-  ahead_none q = free (successOf (wordRun w)) q
+  ahead-none q = free (successOf (wordRun w)) q
     where
-      free : (y : SectionOrLine) → none ≡ next_of y → true ≡ nextIn s n i y
+      free : (y : SectionOrLine) → none ≡ nextOf y → true ≡ nextIn s n i y
       free unfixed q = refl
       free (section t) q = cc
       free (line r) q = refl
 
-  module _ (t : ℕ) (q : some t ≡ next_of (successOf (wordRun w))) where
-    by_both : start_at s n t || leb i t ≡ wordAhead s n i w
+  module _ (t : ℕ) (q : some t ≡ nextOf (successOf (wordRun w))) where
+    by-both : startAt s n t || leb i t ≡ wordAhead s n i w
     unfolding wordAhead
-    by_both = tested (successOf (wordRun w)) q
+    by-both = tested (successOf (wordRun w)) q
       where
-        tested : (y : SectionOrLine) → some t ≡ next_of y → start_at s n t || leb i t ≡ nextIn s n i y
+        tested : (y : SectionOrLine) → some t ≡ nextOf y → startAt s n t || leb i t ≡ nextIn s n i y
         tested unfixed e = cc
         tested (section u) e = let z : t ≡ u = cc in rw z
         tested (line r) e = cc
 
-    pub ahead_past : n ≤ t → true ≡ wordAhead s n i w
-    unfolding start_at
-    ahead_past h = (rw (le-ltb t n h)) ∙ by_both
+    pub ahead-past : n ≤ t → true ≡ wordAhead s n i w
+    unfolding startAt
+    ahead-past h = (rw (le-ltb t n h)) ∙ by-both
 
     pub ahead-there : t < n → (b : Bool) → b ≡ isOne (wordRun (get_or s t 0)).lineStart → b || leb i t ≡ wordAhead s n i w
-    unfolding start_at
-    ahead-there h b b-is = (rw (lt-ltb t n h, b-is)) ∙ by_both
+    unfolding startAt
+    ahead-there h b b-is = (rw (lt-ltb t n h, b-is)) ∙ by-both

@@ -8,10 +8,10 @@ use Rattle.rules.specs.Tables.{successOf}
 use Rattle.rules.specs.Combine.{hit}
 
 -- the section that a successor is
-abbrev pub next_of : SectionOrLine → Option ℕ
-next_of unfixed = none
-next_of (section t) = some t
-next_of (line r) = none
+abbrev pub nextOf : SectionOrLine → Option ℕ
+nextOf unfixed = none
+nextOf (section t) = some t
+nextOf (line r) = none
 
 -- one where it is t
 abbrev pub hits : ℕ → Option ℕ → ℕ
@@ -22,7 +22,7 @@ hits t (some u) = hit u t
 unfoldable pub refsNexts : ℕ → List ℕ → ℕ
 unfolding successOf
 refsNexts t [] = 0
-refsNexts t (w ∷ ws) = hits t (next_of (successOf (wordRun w))) + refsNexts t ws
+refsNexts t (w ∷ ws) = hits t (nextOf (successOf (wordRun w))) + refsNexts t ws
 
 unfoldable pub refsJumps : ℕ → List ℕ → ℕ
 unfolding getSection

@@ -8,18 +8,18 @@ use Rattle.rules.specs.Machine.{SectionOrLine, unfixed, section, line}
 use Rattle.rules.specs.Tables.{successOf}
 
 -- is section t of the first n words s a line start, or not there?
-unfoldable pub start_at : List ℕ → ℕ → ℕ → Bool
+unfoldable pub startAt : List ℕ → ℕ → ℕ → Bool
 unfolding isOne
-start_at s n t = cond (ltb t n) (isOne (wordRun (get_or s t 0)).lineStart) true
+startAt s n t = cond (ltb t n) (isOne (wordRun (get_or s t 0)).lineStart) true
 
 -- section i's successor is a line start or does not lie below it
 abbrev pub nextIn : List ℕ → ℕ → ℕ → SectionOrLine → Bool
 nextIn s n i unfixed = true
-nextIn s n i (section t) = start_at s n t || leb i t
+nextIn s n i (section t) = startAt s n t || leb i t
 nextIn s n i (line r) = true
 
 unfoldable pub wordAhead : List ℕ → ℕ → ℕ → ℕ → Bool
-unfolding successOf start_at
+unfolding successOf startAt
 wordAhead s n i w = nextIn s n i (successOf (wordRun w))
 
 -- and so for the words from number i on

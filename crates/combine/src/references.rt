@@ -9,14 +9,14 @@ ghost use Rattle.rules.specs.Tables.{successOf};
 ghost use Rattle.words.specs.Told.{targetTold};
 ghost use Rattle.tables.specs.Runs.{held};
 ghost use Rattle.join.specs.Held.{Sound};
-ghost use Rattle.combine.specs.Counting.{next_of, hits, refsNexts, refsJumps};
+ghost use Rattle.combine.specs.Counting.{nextOf, hits, refsNexts, refsJumps};
 
 use words::instr::{Instruction, Section, Target};
 use words::section::{SectionOrLine, SectionWord};
 
 // The section that a section goes on to.
 pub fn contiguous_to(section: SectionWord) -> Target
-    ensures { targetTold result ≡ next_of (successOf (wordRun section.0)) }
+    ensures { targetTold result ≡ nextOf (successOf (wordRun section.0)) }
 {
     match section.success() {
         SectionOrLine::Unfixed => Target::Nowhere,

@@ -18,9 +18,9 @@ pub as-unop : (o : Unop) (r : Expr) → codegenFromExpr (unop o r) ≡ (codegenF
 unfolding codegenFromExpr ◌▷◌
 as-unop o r = refl
 
-pub as_number : (z : ℤ) → codegenFromExpr (number z) ≡ (newNum z ▷ λ n. makeVal Op.ValueifyNum n)
+pub as-number : (z : ℤ) → codegenFromExpr (number z) ≡ (newNum z ▷ λ n. makeVal Op.ValueifyNum n)
 unfolding codegenFromExpr ◌▷◌
-as_number z = refl
+as-number z = refl
 
 pub as-string : (t : List ℕ) → codegenFromExpr (string t) ≡ (newStr t ▷ λ k. makeVal Op.ValueifyStr k)
 unfolding codegenFromExpr ◌▷◌

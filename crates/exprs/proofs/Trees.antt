@@ -1,25 +1,25 @@
 -- What a node's word says, field by field, of the expression that is held there; and costs. Assumes nothing.
 use mathlib.Core.Path.{◌≡◌, refl, sym, ap, ◌∙◌}
 use mathlib.Core.List.{List}
-use Prim.Native.Nat.{ℕ, ◌+◌, ◌*◌, ◌/◌, ◌%◌, ◌≤◌, ◌<◌}
+use Prim.Native.Nat.{ℕ, ◌+◌, ◌*◌, ◌≤◌, ◌<◌}
 use native.Mathlib.Omega.{arith}
 use lib.ListN.{length, get_or}
-use Rattle.rules.specs.Constants.{mostBytes, mostNames, numberBits, charBits, byteBits}
+use Rattle.rules.specs.Constants.{mostBytes, mostNames, numberBits, charBits, byteBits, instrsANode, mostChars}
 use Rattle.rules.specs.Bits.{spelled, isOne}
 use Rattle.rules.specs.Tree.{Binop, Unop, Expr, binop, unop, ident, number, string, ofExpr, node, both, emptyTally}
 use Rattle.rules.specs.Tree.{And, Or, Add, Sub, Mul, Div, Mod, Pow, Eq, Ne, Le, Lt, Ge, Gt}
 use Rattle.rules.specs.Tree.{Neg, Not, Abs, Sqrt, Fact, Sin, Cos, Tan, Asin, Acos, Atan}
 use Rattle.rules.specs.Parse.{binops, unops, signed}
 use Rattle.bits.specs.Reads.{charsAt}
-use Rattle.nodes.specs.Words.{binopKind, unopKind, incdecKind, identKind, numberKind, stringKind}
+use Rattle.nodes.specs.Words.{binopKind, unopKind, incdecKind, identKind, numberKind, stringKind, kindIn, lastIn, nameIn, opIn, posIn}
 use Rattle.nodes.specs.Holds.{HoldsE, at-binop, at-unop, at-incdec, at-ident, at-number, at-string}
 use Rattle.nodes.proofs.Words.{unpacked}
 use Rattle.nodes.proofs.Table.{grows}
-use Rattle.nodes.proofs.Exprs.{op-small, tag, kind-held, is-binop, is-unop, is-incdec, is-ident, is_number, is-string}
+use Rattle.nodes.proofs.Exprs.{op-small, tag, kind-held, is-binop, is-unop, is-incdec, is-ident, is-number, is-string}
 use Rattle.codegen.specs.Costs.{binopCost, unopCost}
-use Rattle.codegen.proofs.Lists.{found}
+use Rattle.laws.specs.Lists.{at-elem}
 use Rattle.exprs.specs.Exprs.{exprCost}
-use Rattle.exprs.proofs.Texts.{length-chars}
+use Rattle.nodes.proofs.Built.{chars-length}
 
 -- ---- costs
 
@@ -55,7 +55,7 @@ unop-most Acos = omega arith
 unop-most Atan = omega arith
 
 -- at most nine instructions a node
-pub expr-most : (e : Expr) → exprCost e ≤ 9 * (ofExpr e).nodes
+pub expr-most : (e : Expr) → exprCost e ≤ instrsANode * (ofExpr e).nodes
 unfolding exprCost ofExpr node both emptyTally
 expr-most (binop o l r) = let a = expr-most l in let b = expr-most r in let c = binop-most o in omega arith
 expr-most (unop o r) = let b = expr-most r in let c = unop-most o in omega arith
@@ -67,7 +67,7 @@ expr-most (string t) = omega arith
 -- ---- fields
 
 -- where the expression ends
-pub last-held : {t s : List ℕ} {m i j : ℕ} {e : Expr} → length s ≤ mostBytes → m ≤ mostNames → HoldsE t s m i e j → get_or t i 0 / 281474976710656 ≡ j
+pub last-held : {t s : List ℕ} {m i j : ℕ} {e : Expr} → length s ≤ mostBytes → m ≤ mostNames → HoldsE t s m i e j → lastIn (get_or t i 0) ≡ j
 unfolding binops unops
 last-held a c (at-binop op o p w q l r) = let y = op-small binops op p in (unpacked _ _ _ _ _ _ _ (omega arith) w).last-is
 last-held a c (at-unop op o p w q r) = let y = op-small unops op p in (unpacked _ _ _ _ _ _ _ (omega arith) w).last-is
@@ -80,20 +80,20 @@ last-held a c (at-string n p x l w y k q) = (unpacked _ _ _ _ _ _ _ (omega arith
 pub record BinopAt (t s : List ℕ) (m i : ℕ) (e : Expr) (j : ℕ) : Type 0 where
   pub l : Expr
   pub r : Expr
-  pub is : e ≡ binop (get_or binops (get_or t i 0 / 16 % 16) Gt) l r
-  pub small : get_or t i 0 / 16 % 16 < 14
-  pub left : HoldsE t s m (i + 1) l (get_or t (i + 1) 0 / 281474976710656)
-  pub right : HoldsE t s m (get_or t (i + 1) 0 / 281474976710656) r j
-  pub first : i + 1 < get_or t (i + 1) 0 / 281474976710656
-  pub second : get_or t (i + 1) 0 / 281474976710656 < j
+  pub is : e ≡ binop (get_or binops (opIn (get_or t i 0)) Gt) l r
+  pub small : opIn (get_or t i 0) < 14
+  pub left : HoldsE t s m (i + 1) l (lastIn (get_or t (i + 1) 0))
+  pub right : HoldsE t s m (lastIn (get_or t (i + 1) 0)) r j
+  pub first : i + 1 < lastIn (get_or t (i + 1) 0)
+  pub second : lastIn (get_or t (i + 1) 0) < j
 
-begins : {t s : List ℕ} {m i i' j : ℕ} {e : Expr} → i ≡ i' → HoldsE t s m i e j → HoldsE t s m i' e j
+pub begins : {t s : List ℕ} {m i i' j : ℕ} {e : Expr} → i ≡ i' → HoldsE t s m i e j → HoldsE t s m i' e j
 begins p h = rw p at h
 
-ends : {t s : List ℕ} {m i j j' : ℕ} {e : Expr} → j ≡ j' → HoldsE t s m i e j → HoldsE t s m i e j'
+pub ends : {t s : List ℕ} {m i j j' : ℕ} {e : Expr} → j ≡ j' → HoldsE t s m i e j → HoldsE t s m i e j'
 ends p h = rw p at h
 
-pub binop-at : {t s : List ℕ} {m i j : ℕ} {e : Expr} → length s ≤ mostBytes → m ≤ mostNames → HoldsE t s m i e j → get_or t i 0 % 16 ≡ binopKind → BinopAt t s m i e j
+pub binop-at : {t s : List ℕ} {m i j : ℕ} {e : Expr} → length s ≤ mostBytes → m ≤ mostNames → HoldsE t s m i e j → kindIn (get_or t i 0) ≡ binopKind → BinopAt t s m i e j
 unfolding binops
 binop-at {t} {i = i} a c h k =
     let b = is-binop h k in
@@ -106,7 +106,7 @@ binop-at {t} {i = i} a c h k =
     record {
       l = b.l;
       r = b.r;
-      is = b.is ∙ ap (λ (o : Binop). binop o b.l b.r) (sym (found binops b.op Gt b.o b.pick) ∙ ap (λ (k : ℕ). get_or binops k Gt) (sym f.op-is));
+      is = b.is ∙ ap (λ (o : Binop). binop o b.l b.r) (sym (at-elem binops b.op Gt b.o b.pick) ∙ ap (λ (k : ℕ). get_or binops k Gt) (sym f.op-is));
       small = omega (arith, f.op-is);
       left = l';
       right = r';
@@ -116,12 +116,12 @@ binop-at {t} {i = i} a c h k =
 
 pub record UnopAt (t s : List ℕ) (m i : ℕ) (e : Expr) (j : ℕ) : Type 0 where
   pub r : Expr
-  pub is : e ≡ unop (get_or unops (get_or t i 0 / 16 % 16) Atan) r
-  pub small : get_or t i 0 / 16 % 16 < 11
+  pub is : e ≡ unop (get_or unops (opIn (get_or t i 0)) Atan) r
+  pub small : opIn (get_or t i 0) < 11
   pub operand : HoldsE t s m (i + 1) r j
   pub after : i + 1 < j
 
-pub unop-at : {t s : List ℕ} {m i j : ℕ} {e : Expr} → HoldsE t s m i e j → get_or t i 0 % 16 ≡ unopKind → UnopAt t s m i e j
+pub unop-at : {t s : List ℕ} {m i j : ℕ} {e : Expr} → HoldsE t s m i e j → kindIn (get_or t i 0) ≡ unopKind → UnopAt t s m i e j
 unfolding unops
 unop-at {t} {i = i} h k =
     let b = is-unop h k in
@@ -130,7 +130,7 @@ unop-at {t} {i = i} h k =
     let r = begins b.next b.operand in
     record {
       r = b.r;
-      is = b.is ∙ ap (λ (o : Unop). unop o b.r) (sym (found unops b.op Atan b.o b.pick) ∙ ap (λ (k : ℕ). get_or unops k Atan) (sym f.op-is));
+      is = b.is ∙ ap (λ (o : Unop). unop o b.r) (sym (at-elem unops b.op Atan b.o b.pick) ∙ ap (λ (k : ℕ). get_or unops k Atan) (sym f.op-is));
       small = omega (arith, f.op-is);
       operand = r;
       after = grows r;
@@ -139,10 +139,10 @@ unop-at {t} {i = i} h k =
 -- ---- the others, by their word w
 
 pub record IncdecAt (w m : ℕ) (e : Expr) : Type 0 where
-  pub is : e ≡ Expr.incdec (isOne (w / 16 % 16)) (w / 256 % 256)
-  pub known : w / 256 % 256 < m
+  pub is : e ≡ Expr.incdec (isOne (opIn w)) (nameIn w)
+  pub known : nameIn w < m
 
-pub incdec-at : {t s : List ℕ} {m i j w : ℕ} {e : Expr} → m ≤ mostNames → HoldsE t s m i e j → get_or t i 0 ≡ w → w % 16 ≡ incdecKind → IncdecAt w m e
+pub incdec-at : {t s : List ℕ} {m i j w : ℕ} {e : Expr} → m ≤ mostNames → HoldsE t s m i e j → get_or t i 0 ≡ w → kindIn w ≡ incdecKind → IncdecAt w m e
 incdec-at c h q k =
     let b = is-incdec h (rw q k) in
     let g = b.flag in
@@ -150,10 +150,10 @@ incdec-at c h q k =
     record { is = rw (f.op-is, f.name-is) b.is; known = rw f.name-is g.known }
 
 pub record IdentAt (w m : ℕ) (e : Expr) : Type 0 where
-  pub is : e ≡ ident (w / 256 % 256)
-  pub known : w / 256 % 256 < m
+  pub is : e ≡ ident (nameIn w)
+  pub known : nameIn w < m
 
-pub ident-at : {t s : List ℕ} {m i j w : ℕ} {e : Expr} → m ≤ mostNames → HoldsE t s m i e j → get_or t i 0 ≡ w → w % 16 ≡ identKind → IdentAt w m e
+pub ident-at : {t s : List ℕ} {m i j w : ℕ} {e : Expr} → m ≤ mostNames → HoldsE t s m i e j → get_or t i 0 ≡ w → kindIn w ≡ identKind → IdentAt w m e
 ident-at c h q k =
     let b = is-ident h (rw q k) in
     let g = b.known in
@@ -161,35 +161,35 @@ ident-at c h q k =
     record { is = rw f.name-is b.is; known = rw f.name-is g }
 
 pub record NumAt (s : List ℕ) (w : ℕ) (e : Expr) : Type 0 where
-  pub is : e ≡ number (signed (spelled s numberBits (w / 65536 % 524288)))
-  pub inside : w / 65536 % 524288 + numberBits ≤ byteBits * length s
+  pub is : e ≡ number (signed (spelled s numberBits (posIn w)))
+  pub inside : posIn w + numberBits ≤ byteBits * length s
 
-pub num-at : {t s : List ℕ} {m i j w : ℕ} {e : Expr} → length s ≤ mostBytes → HoldsE t s m i e j → get_or t i 0 ≡ w → w % 16 ≡ numberKind → NumAt s w e
+pub num-at : {t s : List ℕ} {m i j w : ℕ} {e : Expr} → length s ≤ mostBytes → HoldsE t s m i e j → get_or t i 0 ≡ w → kindIn w ≡ numberKind → NumAt s w e
 num-at a h q k =
-    let b = is_number h (rw q k) in
+    let b = is-number h (rw q k) in
     let g = b.inside in
     let f = unpacked numberKind 0 0 b.p _ 0 _ (omega arith) (sym q ∙ b.word) in
     record { is = rw f.pos-is b.is; inside = rw f.pos-is g }
 
 pub record StrAt (s : List ℕ) (w : ℕ) (e : Expr) : Type 0 where
-  pub is : e ≡ string (charsAt s (w / 256 % 256) (w / 65536 % 524288))
-  pub few : w / 256 % 256 < 128
-  pub inside : w / 65536 % 524288 + charBits * (w / 256 % 256) ≤ byteBits * length s
+  pub is : e ≡ string (charsAt s (nameIn w) (posIn w))
+  pub few : nameIn w ≤ mostChars
+  pub inside : posIn w + charBits * nameIn w ≤ byteBits * length s
 
-pub str-at : {t s : List ℕ} {m i j w : ℕ} {e : Expr} → length s ≤ mostBytes → HoldsE t s m i e j → get_or t i 0 ≡ w → w % 16 ≡ stringKind → StrAt s w e
+pub str-at : {t s : List ℕ} {m i j w : ℕ} {e : Expr} → length s ≤ mostBytes → HoldsE t s m i e j → get_or t i 0 ≡ w → kindIn w ≡ stringKind → StrAt s w e
 str-at a h q k =
     let b = is-string h (rw q k) in
     let g = b.inside in
     let y = b.few in
     let f = unpacked stringKind 0 b.n b.p _ 0 _ (omega arith) (sym q ∙ b.word) in
-    record { is = rw (f.name-is, f.pos-is) b.is; few = rw f.name-is y; inside = rw (f.name-is, f.pos-is) g }
+    record { is = rw (f.name-is, f.pos-is) b.is; few = omega (arith, f.name-is, y); inside = rw (f.name-is, f.pos-is) g }
 
 -- what is none of the other kinds is a string
-pub else-string : {t s : List ℕ} {m i j w : ℕ} {e : Expr} → HoldsE t s m i e j → get_or t i 0 ≡ w → (w % 16 ≡ binopKind → ⊥) → (w % 16 ≡ unopKind → ⊥) → (w % 16 ≡ incdecKind → ⊥) → (w % 16 ≡ identKind → ⊥) → (w % 16 ≡ numberKind → ⊥) → w % 16 ≡ stringKind
+pub else-string : {t s : List ℕ} {m i j w : ℕ} {e : Expr} → HoldsE t s m i e j → get_or t i 0 ≡ w → (kindIn w ≡ binopKind → ⊥) → (kindIn w ≡ unopKind → ⊥) → (kindIn w ≡ incdecKind → ⊥) → (kindIn w ≡ identKind → ⊥) → (kindIn w ≡ numberKind → ⊥) → kindIn w ≡ stringKind
 unfolding tag
 else-string {t} {s} {m} {i} {j} {w} {e} h q a b c d f = by e (rw q at (kind-held h))
   where
-    by : (x : Expr) → w % 16 ≡ tag x → w % 16 ≡ stringKind
+    by : (x : Expr) → kindIn w ≡ tag x → kindIn w ≡ stringKind
     by (binop o l r) z = absurd (a z)
     by (unop o r) z = absurd (b z)
     by (Expr.incdec y x) z = absurd (c z)
@@ -212,17 +212,17 @@ pub record Text (n : ℕ) (e : Expr) : Type 0 where
   pub strings : (ofExpr e).strings ≡ 1
   pub characters : (ofExpr e).characters ≡ n
 
-pub str-counts : {s : List ℕ} {w : ℕ} {e : Expr} → StrAt s w e → Text (w / 256 % 256) e
+pub str-counts : {s : List ℕ} {w : ℕ} {e : Expr} → StrAt s w e → Text (nameIn w) e
 unfolding ofExpr
-str-counts {s} {w} b = rw b.is (record { strings = refl; characters = length-chars s (w / 256 % 256) (w / 65536 % 524288) })
+str-counts {s} {w} b = rw b.is (record { strings = refl; characters = chars-length s (nameIn w) (posIn w) })
 
 -- an operation's operands, and the most that each costs
 pub record Sum (l r e : Expr) : Type 0 where
   pub nodes : (ofExpr e).nodes ≡ 1 + (ofExpr l).nodes + (ofExpr r).nodes
   pub strings : (ofExpr e).strings ≡ (ofExpr l).strings + (ofExpr r).strings
   pub characters : (ofExpr e).characters ≡ (ofExpr l).characters + (ofExpr r).characters
-  pub left : exprCost l ≤ 9 * (ofExpr l).nodes
-  pub right : exprCost r ≤ 9 * (ofExpr r).nodes
+  pub left : exprCost l ≤ instrsANode * (ofExpr l).nodes
+  pub right : exprCost r ≤ instrsANode * (ofExpr r).nodes
 
 pub binop-sum : {t s : List ℕ} {m i j : ℕ} {e : Expr} (b : BinopAt t s m i e j) → Sum b.l b.r e
 unfolding ofExpr node both
@@ -232,7 +232,7 @@ pub record Over (r e : Expr) : Type 0 where
   pub nodes : (ofExpr e).nodes ≡ 1 + (ofExpr r).nodes
   pub strings : (ofExpr e).strings ≡ (ofExpr r).strings
   pub characters : (ofExpr e).characters ≡ (ofExpr r).characters
-  pub operand : exprCost r ≤ 9 * (ofExpr r).nodes
+  pub operand : exprCost r ≤ instrsANode * (ofExpr r).nodes
 
 pub unop-over : {t s : List ℕ} {m i j : ℕ} {e : Expr} (b : UnopAt t s m i e j) → Over b.r e
 unfolding ofExpr node

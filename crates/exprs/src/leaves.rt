@@ -3,7 +3,7 @@
 // Each function is shown to do what the step of `rules` does. A caller owes bits that are there (`NumberAt`, `TextAt`) and room.
 ghost use Rattle.std.specs.Prelude.{◌≡◌, List, ℕ, ◌+◌, ◌*◌, ◌≤◌, ◌<◌, length, get_or};
 ghost use Rattle.std.proofs.lemmas.List.Edits.{sets};
-ghost use Rattle.rules.specs.Constants.{mostNames, numberBits};
+ghost use Rattle.rules.specs.Constants.{mostNames, numberBits, mostCount};
 ghost use Rattle.rules.specs.Bits.{spelled};
 ghost use Rattle.rules.specs.Opcode as Op;
 ghost use Rattle.rules.specs.Tree.{Expr};
@@ -91,7 +91,7 @@ fn codegen_from_string(
     n: u16,
     p: usize,
 ) -> GotVal
-    requires { TextAt s.now n p × StringRoom c n (length strings.old) (length pool.old) × (c.at < length instrs.old) × (c.values < 65535) }
+    requires { TextAt s.now n p × StringRoom c n (length strings.old) (length pool.old) × (c.at < length instrs.old) × (c.values < mostCount) }
     ensures spent { Spent c result.next 1 0 1 1 n }
     ensures does { DoesText (newStr (charsAt s.now n p) ▷ λ k. makeVal Op.ValueifyStr k) c instrs.old instrs.new strings.old strings.new pool.old pool.new result.reg.0 result.next }
 {

@@ -15,7 +15,7 @@ use Rattle.rules.specs.Tables.{Tables, Counts, runWords, allCode, encode, counts
 use Rattle.rules.specs.Clean.{cleaned}
 use Rattle.rules.specs.Combine.{combined}
 use Rattle.rules.specs.Lowered.{Options, lowered, finished}
-use Rattle.rules.specs.Operations.{size_of, estimate, holds, put, write, build, lower, finish}
+use Rattle.rules.specs.Operations.{sizeOf, estimate, holds, put, write, build, lower, finish}
 use Rattle.bounds.specs.Parsed.{refused≢ok}
 use Rattle.walks.specs.Theorems.{lowered-estimated}
 use Rattle.tables.specs.Runs.{held}
@@ -38,17 +38,17 @@ tablesWith t a b = record { sections = a; instrs = b; numbers = t.numbers; strin
 pub record Made (o : Options) (s : List ℕ) (t t' : Tables) (u : Counts) : Type 0 where
   tree : Tree
   parsed : parse s ≡ ok tree
-  room : holds t (estimate (size_of tree)) ≡ true
+  room : holds t (estimate (sizeOf tree)) ≡ true
   counts : u ≡ countsOf (lowered o tree)
-  tables : t' ≡ write (estimate (size_of tree)) (lowered o tree) t
+  tables : t' ≡ write (estimate (sizeOf tree)) (lowered o tree) t
 
 module _ (o : Options) (s : List ℕ) (t t' : Tables) where
   -- what build gives for a tree, by whether there is room
   given : (Tree → Machine) → Tree → Bool → Res Counts × Tables
-  given f x b = elim b [ false ↦ (refused Refusal.noRoom, t) | true ↦ (let m = f x in (ok (countsOf m), write (estimate (size_of x)) m t)) ]
+  given f x b = elim b [ false ↦ (refused Refusal.noRoom, t) | true ↦ (let m = f x in (ok (countsOf m), write (estimate (sizeOf x)) m t)) ]
 
   answer : (Tree → Machine) → Res Tree → Res Counts × Tables
-  answer f r = elim r [ refused n ↦ (refused n, t) | ok x ↦ given f x (holds t (estimate (size_of x))) ]
+  answer f r = elim r [ refused n ↦ (refused n, t) | ok x ↦ given f x (holds t (estimate (sizeOf x))) ]
 
   -- a refusal of lowering is finish's
   pub refused-both : (n : ℕ) → (refused n, t') ≡ lower o s t → (refused n, t') ≡ finish o s t
@@ -61,7 +61,7 @@ module _ (o : Options) (s : List ℕ) (t t' : Tables) where
 
       outer : (r : Res Tree) → (refused n, t') ≡ answer (lowered o) r → (refused n, t') ≡ answer (finished o) r
       outer (refused k) q = q
-      outer (ok x) q = inner x (holds t (estimate (size_of x))) q
+      outer (ok x) q = inner x (holds t (estimate (sizeOf x))) q
 
   -- and where it is not refused
   pub made : (u : Counts) → (ok u, t') ≡ lower o s t → Made o s t t' u
@@ -72,18 +72,18 @@ module _ (o : Options) (s : List ℕ) (t t' : Tables) where
       used (refused n) = u
       used (ok v) = v
 
-      inner : (x : Tree) → parse s ≡ ok x → (b : Bool) → holds t (estimate (size_of x)) ≡ b → (ok u, t') ≡ given (lowered o) x b → Made o s t t' u
+      inner : (x : Tree) → parse s ≡ ok x → (b : Bool) → holds t (estimate (sizeOf x)) ≡ b → (ok u, t') ≡ given (lowered o) x b → Made o s t t' u
       inner x p false h q = absurd (refused≢ok Refusal.noRoom u (sym (ap (λ (z : Res Counts × Tables). z.0) q)))
       inner x p true h q = record { tree = x; parsed = p; room = h; counts = ap (λ (z : Res Counts × Tables). used z.0) q; tables = ap (λ (z : Res Counts × Tables). z.1) q }
 
       outer : (r : Res Tree) → parse s ≡ r → (ok u, t') ≡ answer (lowered o) r → Made o s t t' u
       outer (refused k) p q = absurd (refused≢ok k u (sym (ap (λ (z : Res Counts × Tables). z.0) q)))
-      outer (ok x) p q = inner x p (holds t (estimate (size_of x))) refl q
+      outer (ok x) p q = inner x p (holds t (estimate (sizeOf x))) refl q
 
   -- ---- finishing what was lowered
   module _ (u : Counts) (m : Made o s t t' u) where
     abbrev room : Counts
-    room = estimate (size_of m.tree)
+    room = estimate (sizeOf m.tree)
 
     abbrev before : List SectionCode
     before = (lowered o m.tree).sections
@@ -122,9 +122,9 @@ module _ (o : Options) (s : List ℕ) (t t' : Tables) where
       abbrev after : List SectionCode
       after = finishSections (held t'.sections t'.instrs u.sections u.instrs)
 
-      after_is : after ≡ (finished o m.tree).sections
+      after-is : after ≡ (finished o m.tree).sections
       unfolding finishSections finished combined cleaned stands-lowered
-      after_is = ap finishSections (held-is t'.sections t'.instrs u.sections u.instrs stands-lowered)
+      after-is = ap finishSections (held-is t'.sections t'.instrs u.sections u.instrs stands-lowered)
 
       sections-are : s2 ≡ put 0 room.sections (runWords 0 after) t.sections
       unfolding countsOf
@@ -144,13 +144,13 @@ module _ (o : Options) (s : List ℕ) (t t' : Tables) where
       unfolding countsOf finished combined cleaned
       counts-are =
           ap (λ (v : Counts). countsWith v r b) m.counts
-          ∙ ap₂ (countsWith (countsOf (lowered o m.tree))) (f.section-count ∙ ap length after_is) (f.instr-count ∙ ap (λ (x : List SectionCode). length (allCode x)) after_is)
+          ∙ ap₂ (countsWith (countsOf (lowered o m.tree))) (f.section-count ∙ ap length after-is) (f.instr-count ∙ ap (λ (x : List SectionCode). length (allCode x)) after-is)
 
       tables-are : tablesWith t' s2 i2 ≡ write room (finished o m.tree) t
       unfolding write encode finished combined cleaned
       tables-are =
           ap (λ (v : Tables). tablesWith v s2 i2) m.tables
-          ∙ ap₂ (tablesWith (write room (lowered o m.tree) t)) (sections-are ∙ ap (λ (x : List SectionCode). put 0 room.sections (runWords 0 x) t.sections) after_is) (instrs-are ∙ ap (λ (x : List SectionCode). put 0 room.instrs (map insWord (allCode x)) t.instrs) after_is)
+          ∙ ap₂ (tablesWith (write room (lowered o m.tree) t)) (sections-are ∙ ap (λ (x : List SectionCode). put 0 room.sections (runWords 0 x) t.sections) after-is) (instrs-are ∙ ap (λ (x : List SectionCode). put 0 room.instrs (map insWord (allCode x)) t.instrs) after-is)
 
       pub finish-done : (ok (countsWith u r b), tablesWith t' s2 i2) ≡ finish o s t
       unfolding finish build answer given

@@ -6,6 +6,7 @@ use Prim.Native.Nat.{ℕ, ◌≤◌}
 use native.Mathlib.Omega.{arith}
 use lib.ListN.{length, take, length-take, length-map}
 use lib.Seq.{take_all}
+use Rattle.rules.specs.Constants.{mostCount}
 use Rattle.rules.specs.Word.{insWord}
 use Rattle.rules.specs.Machine.{SectionCode, Machine}
 use Rattle.rules.specs.Tables.{runWords, allCode, encode, countsOf}
@@ -27,7 +28,7 @@ use Rattle.clean.specs.Pass.{Cleaned}
 use Rattle.join.specs.Held.{Sound}
 use Rattle.join.proofs.Back.{holds-held}
 use Rattle.combine.specs.Combined.{Combined}
-use Rattle.combine.proofs.Ready.{Ready, fit-holds, ready, written_over}
+use Rattle.combine.proofs.Ready.{Ready, fit-holds, ready, written-over}
 use Rattle.finish.specs.Passes.{Lowered, finishSections, Finished}
 
 -- ---- the runs of a machine's words cover its instructions
@@ -56,7 +57,7 @@ module _ (s i : List ℕ) (n e : ℕ) (l : Lowered s i n e) where
   held-is = holds-held s i n e machine.sections (fit-holds machine fit s i n e l.section-count l.instr-count l.sections l.instrs)
 
   -- what cleaning asks
-  pub clean-asks : (n ≤ length s) × (n ≤ 65535) × (e ≤ length i) × (e ≤ 65535) × (total (take n s) ≡ e)
+  pub clean-asks : (n ≤ length s) × (n ≤ mostCount) × (e ≤ length i) × (e ≤ mostCount) × (total (take n s) ≡ e)
   unfolding countsOf
   clean-asks =
       let ss = machine.sections in (
@@ -96,7 +97,7 @@ module _ (s i : List ℕ) (n e : ℕ) (l : Lowered s i n e) where
         let few : m ≤ n = omega (arith, c.section-count, less.0, ap length held-is, l.section-count) in
         let short : b ≤ e = omega (arith, c.instr-count, less.1, ap (λ (x : List SectionCode). length (allCode x)) held-is, l.instr-count) in
         record {
-          words = written_over s i s1 i1 s2 i2 n e m b r cs (combineSections cs) (record { sections = c.sections; instrs = c.instrs }) (sym c.section-count) (sym c.instr-count) few short k';
+          words = written-over s i s1 i1 s2 i2 n e m b r cs (combineSections cs) (record { sections = c.sections; instrs = c.instrs }) (sym c.section-count) (sym c.instr-count) few short k';
           section-count = k'.count;
           instr-count = k'.code;
           fewer = omega (arith, k'.fewer);

@@ -1,2 +1,2 @@
 pub mod Passes
-pub mod Demand3
+pub mod Preservation

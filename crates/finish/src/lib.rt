@@ -1,5 +1,5 @@
 // Finishing: a tree file is lowered, and its machine cleaned and combined. The answer and every lent word afterwards are shown equal to
-// `finish` of `rules`; specs/Demand3 says of these words what demand 3 asks. Assumes nothing.
+// `finish` of `rules`; specs/Preservation says of these words that they preserve the tree's reading. Assumes nothing.
 //
 // Nothing is checked between the steps: that clean and combine would not refuse what they are given is proved.
 #![tactic(auto)]

@@ -6,10 +6,10 @@ use Rattle.rules.specs.Instr.{Instruction}
 use Rattle.rules.specs.Word.{insWord, wordIns}
 use Rattle.rules.specs.Machine.{SectionOrLine, SectionCode}
 use Rattle.rules.specs.Tables.{runWords, allCode, readSections}
-use Rattle.rules.specs.Demand.{All}
+use Rattle.rules.specs.Preservation.{All}
 use Rattle.laws.specs.Words.{InsSmall, ins-back}
 use Rattle.laws.specs.Sections.{code-cons}
-use Rattle.tables.specs.Runs.{count_of, sectionOf, held}
+use Rattle.tables.specs.Runs.{countOf, sectionOf, held}
 use Rattle.tables.proofs.Read.{read-nil, read-cons}
 use Rattle.join.specs.Held.{SectSmall, Holds}
 use Rattle.join.proofs.Tells.{Tells, Tell, tell}
@@ -21,16 +21,16 @@ code-back (i ∷ c) h = rw (ins-back i h.0, code-back c h.1)
 same-section : {a a' : Bool} {b b' : List Instruction} {c c' : SectionOrLine} → a ≡ a' → b ≡ b' → c ≡ c' → ◌≡◌ {A = SectionCode} (record { lineStart = a; instrs = b; success = c }) (record { lineStart = a'; instrs = b'; success = c' })
 same-section p q r = cc
 
-read_one : (w : ℕ) (s : SectionCode) (rest : List ℕ) → Tells w s → SectSmall s → sectionOf w (map insWord s.instrs ++ rest) ≡ s
-unfolding count_of
-read_one w s rest t h =
+read-one : (w : ℕ) (s : SectionCode) (rest : List ℕ) → Tells w s → SectSmall s → sectionOf w (map insWord s.instrs ++ rest) ≡ s
+unfolding countOf
+read-one w s rest t h =
     same-section
     t.start
     (rw (t.count, take_at (map insWord s.instrs) rest (length s.instrs) (length-map s.instrs insWord)) (code-back s.instrs h.1))
     t.next
 
-read-rest : (w : ℕ) (s : SectionCode) (rest : List ℕ) → Tells w s → drop (count_of w) (map insWord s.instrs ++ rest) ≡ rest
-unfolding count_of
+read-rest : (w : ℕ) (s : SectionCode) (rest : List ℕ) → Tells w s → drop (countOf w) (map insWord s.instrs ++ rest) ≡ rest
+unfolding countOf
 read-rest w s rest t = rw t.count (drop_at (map insWord s.instrs) rest (length s.instrs) (length-map s.instrs insWord))
 
 pub read-tell : (ws : List ℕ) (ss : List SectionCode) → Tell ws ss → All SectSmall ss → readSections ws (map insWord (allCode ss)) ≡ ss
@@ -39,7 +39,7 @@ read-tell [] (s ∷ ss) t h = absurd t
 read-tell (w ∷ ws) [] t h = absurd t
 read-tell (w ∷ ws) (s ∷ ss) t h =
     let is = map insWord s.instrs ++ map insWord (allCode ss) in
-    rw (code-cons, map-append, read-cons, read_one w s (map insWord (allCode ss)) t.0 h.0, read-rest w s (map insWord (allCode ss)) t.0, read-tell ws ss t.1 h.1)
+    rw (code-cons, map-append, read-cons, read-one w s (map insWord (allCode ss)) t.0 h.0, read-rest w s (map insWord (allCode ss)) t.0, read-tell ws ss t.1 h.1)
 
 module _ (s i : List ℕ) (n e : ℕ) (ss : List SectionCode) (h : Holds s i n e ss) where
   -- the section words tell the sections

@@ -1,5 +1,6 @@
 -- What the steps of a join leave in the tables is the join of what they held: `joins`, and so they hold it: `join-holds`. Assumes that the
 -- words hold sections, runs end to end, and that S2 stands above S1.
+use Rattle.rules.specs.Constants.{mostCount}
 use Rattle.std.specs.Prelude.{◌≡◌, take, get_or, set}
 use Rattle.std.proofs.Common.{sym, ◌∙◌, take-append-drop, length-drop, length-take, length-take-le}
 use Rattle.std.proofs.Math.Path.{ap, subst}
@@ -17,18 +18,18 @@ use Rattle.rules.specs.Tables.{runWords, allCode, runOf}
 use Rattle.rules.specs.Operations.{put}
 use Rattle.rules.specs.Clean.{renIns, ren}
 use Rattle.rules.specs.Combine.{joined, combineAt}
-use Rattle.rules.specs.Demand.{All}
+use Rattle.rules.specs.Preservation.{All}
 use Rattle.laws.specs.Lists.{all-left, all-right, all-append}
 use Rattle.laws.specs.SectionWord.{first-is, count-is}
 use Rattle.laws.specs.Words.{InsSmall}
 use Rattle.laws.specs.Sections.{words-length, words-cons, words-append, code-append}
-use Rattle.tables.specs.Runs.{count_of, total}
+use Rattle.tables.specs.Runs.{countOf, total}
 use Rattle.join.specs.Held.{SectSmall, Holds, Changed}
 use Rattle.join.specs.Parts.{exchanged}
 use Rattle.join.specs.Passes.{jumpFallen, mergedWord, cutOut, numbered}
 use Rattle.join.proofs.Tells.{Tell, tell, tells, tell-append, tell-total, tell-length, merged, settles, code-longer}
-use Rattle.join.proofs.Parted.{cut-two, join-parts, code_map, code-before, code-after}
-use Rattle.join.proofs.Cuts.{exchange-at, cut_at}
+use Rattle.join.proofs.Parted.{cut-two, join-parts, code-map, code-before, code-after}
+use Rattle.join.proofs.Cuts.{exchange-at, cut-at}
 use Rattle.join.proofs.Small.{code-small, small-fall, jumps-fall}
 
 -- ---- the steps
@@ -36,7 +37,7 @@ use Rattle.join.proofs.Small.{code-small, small-fall, jumps-fall}
 pub record Steps (S I : List ℕ) (n e i j : ℕ) (new : List SectionCode) : Type 0 where
   pub apart : (wordRun (get_or S i 0)).first + (wordRun (get_or S i 0)).count ≤ (wordRun (get_or S j 0)).first
   pub inside : (wordRun (get_or S j 0)).first + (wordRun (get_or S j 0)).count ≤ e
-  pub counts : count_of (get_or S i 0) + count_of (get_or S j 0) < 65536
+  pub counts : countOf (get_or S i 0) + countOf (get_or S j 0) < 65536
   pub all : (s : List ℕ) → s ≡ cutOut j n (set S i (mergedWord (get_or S i 0) (get_or S j 0))) → total (take (n - 1) s) ≡ e
   pub sections : (s : List ℕ) → s ≡ cutOut j n (set S i (mergedWord (get_or S i 0) (get_or S j 0))) → numbered j 0 (take (n - 1) s) ++ drop (n - 1) s ≡ put 0 n (runWords 0 new) S
   pub instrs : (t : List ℕ) → t ≡ exchanged ((wordRun (get_or S i 0)).first + (wordRun (get_or S i 0)).count) (wordRun (get_or S j 0)).first ((wordRun (get_or S j 0)).first + (wordRun (get_or S j 0)).count) I →
@@ -52,7 +53,7 @@ freed n ws s h k =
 
 -- by the parts of the list
 
-module _ (ps ms zs : List SectionCode) (a b : SectionCode) (R Q : List ℕ) (i j n e : ℕ) (hi : length ps ≡ i) (hj : i + 1 + length ms ≡ j) (hn : j + 1 + length zs ≡ n) (small : All SectSmall (ps ++ (a ∷ (ms ++ (b ∷ zs))))) (he : length (allCode (ps ++ (a ∷ (ms ++ (b ∷ zs))))) ≡ e) (short : e ≤ 65535) where
+module _ (ps ms zs : List SectionCode) (a b : SectionCode) (R Q : List ℕ) (i j n e : ℕ) (hi : length ps ≡ i) (hj : i + 1 + length ms ≡ j) (hn : j + 1 + length zs ≡ n) (small : All SectSmall (ps ++ (a ∷ (ms ++ (b ∷ zs))))) (he : length (allCode (ps ++ (a ∷ (ms ++ (b ∷ zs))))) ≡ e) (short : e ≤ mostCount) where
   -- where the runs of a and b begin
   abbrev ka : ℕ
   ka = length (allCode ps)
@@ -75,8 +76,8 @@ module _ (ps ms zs : List SectionCode) (a b : SectionCode) (R Q : List ℕ) (i j
   small-behind : All SectSmall (ms ++ (b ∷ zs))
   small-behind = (all-right SectSmall ps (a ∷ (ms ++ (b ∷ zs))) small).1
 
-  small_b : SectSmall b
-  small_b = (all-right SectSmall ms (b ∷ zs) small-behind).0
+  small-b : SectSmall b
+  small-b = (all-right SectSmall ms (b ∷ zs) small-behind).0
 
   -- the words of a and b
   abbrev wa : ℕ
@@ -94,8 +95,8 @@ module _ (ps ms zs : List SectionCode) (a b : SectionCode) (R Q : List ℕ) (i j
   abbrev Z : List ℕ
   Z = runWords kz zs
 
-  words_are : runWords 0 (ps ++ (a ∷ (ms ++ (b ∷ zs)))) ++ R ≡ A ++ (wa ∷ (M ++ (wb ∷ (Z ++ R))))
-  words_are = let z : 0 + ka ≡ ka = omega arith in rw (words-append 0 ps (a ∷ (ms ++ (b ∷ zs))), z, words-cons ka a (ms ++ (b ∷ zs)), words-append km ms (b ∷ zs), words-cons kb b zs) (append_assoc A (wa ∷ (M ++ (wb ∷ Z))) R ∙ ap (λ (x : List ℕ). A ++ (wa ∷ x)) (append_assoc M (wb ∷ Z) R))
+  words-are : runWords 0 (ps ++ (a ∷ (ms ++ (b ∷ zs)))) ++ R ≡ A ++ (wa ∷ (M ++ (wb ∷ (Z ++ R))))
+  words-are = let z : 0 + ka ≡ ka = omega arith in rw (words-append 0 ps (a ∷ (ms ++ (b ∷ zs))), z, words-cons ka a (ms ++ (b ∷ zs)), words-append km ms (b ∷ zs), words-cons kb b zs) (append_assoc A (wa ∷ (M ++ (wb ∷ Z))) R ∙ ap (λ (x : List ℕ). A ++ (wa ∷ x)) (append_assoc M (wb ∷ Z) R))
 
   len-A : length A ≡ i
   len-A = words-length 0 ps ∙ hi
@@ -109,11 +110,11 @@ module _ (ps ms zs : List SectionCode) (a b : SectionCode) (R Q : List ℕ) (i j
   regroup : (w : ℕ) (x : List ℕ) → A ++ (w ∷ (M ++ x)) ≡ (A ++ (w ∷ M)) ++ x
   regroup w x = sym (append_assoc A (w ∷ M) x)
 
-  at_i : get_or (A ++ (wa ∷ (M ++ (wb ∷ (Z ++ R))))) i 0 ≡ wa
-  at_i = get_or_at A wa (M ++ (wb ∷ (Z ++ R))) 0 i len-A
+  at-i : get_or (A ++ (wa ∷ (M ++ (wb ∷ (Z ++ R))))) i 0 ≡ wa
+  at-i = get_or_at A wa (M ++ (wb ∷ (Z ++ R))) 0 i len-A
 
-  at_j : get_or (A ++ (wa ∷ (M ++ (wb ∷ (Z ++ R))))) j 0 ≡ wb
-  at_j = rw (regroup wa (wb ∷ (Z ++ R))) (get_or_at (A ++ (wa ∷ M)) wb (Z ++ R) 0 j (front wa))
+  at-j : get_or (A ++ (wa ∷ (M ++ (wb ∷ (Z ++ R))))) j 0 ≡ wb
+  at-j = rw (regroup wa (wb ∷ (Z ++ R))) (get_or_at (A ++ (wa ∷ M)) wb (Z ++ R) 0 j (front wa))
 
   -- the fields that are read
   first-a : (wordRun wa).first ≡ ka
@@ -123,10 +124,10 @@ module _ (ps ms zs : List SectionCode) (a b : SectionCode) (R Q : List ℕ) (i j
   count-a = let z = lengths in count-is a.lineStart a.success ka (length a.instrs) small-a.0 (omega arith) (omega arith)
 
   first-b : (wordRun wb).first ≡ kb
-  first-b = let z = lengths in first-is b.lineStart b.success kb (length b.instrs) small_b.0 (omega arith) (omega arith)
+  first-b = let z = lengths in first-is b.lineStart b.success kb (length b.instrs) small-b.0 (omega arith) (omega arith)
 
   count-b : (wordRun wb).count ≡ length b.instrs
-  count-b = let z = lengths in count-is b.lineStart b.success kb (length b.instrs) small_b.0 (omega arith) (omega arith)
+  count-b = let z = lengths in count-is b.lineStart b.success kb (length b.instrs) small-b.0 (omega arith) (omega arith)
 
   -- the sections afterwards, before targets fall
   abbrev new : List SectionCode
@@ -136,7 +137,7 @@ module _ (ps ms zs : List SectionCode) (a b : SectionCode) (R Q : List ℕ) (i j
   small-new =
       all-append SectSmall ps (joined a b ∷ (ms ++ zs))
       (all-left SectSmall ps (a ∷ (ms ++ (b ∷ zs))) small) (
-        (small_b.0, all-append InsSmall a.instrs b.instrs small-a.1 small_b.1),
+        (small-b.0, all-append InsSmall a.instrs b.instrs small-a.1 small-b.1),
         all-append SectSmall ms zs (all-left SectSmall ms (b ∷ zs) small-behind) (all-right SectSmall ms (b ∷ zs) small-behind).1,
       )
 
@@ -145,7 +146,7 @@ module _ (ps ms zs : List SectionCode) (a b : SectionCode) (R Q : List ℕ) (i j
       let l = lengths in
       tell-append A (mergedWord wa wb ∷ (M ++ Z)) ps (joined a b ∷ (ms ++ zs))
       (tell ps 0 (all-left SectSmall ps (a ∷ (ms ++ (b ∷ zs))) small) (omega arith)) (
-        merged wa wb a b (tells a ka small-a (omega arith)) (tells b kb small_b (omega arith)) small_b.0 (omega (arith, first-a)) (omega arith),
+        merged wa wb a b (tells a ka small-a (omega arith)) (tells b kb small-b (omega arith)) small-b.0 (omega (arith, first-a)) (omega arith),
         tell-append M Z ms zs (tell ms km (all-left SectSmall ms (b ∷ zs) small-behind) (omega arith)) (tell zs kz (all-right SectSmall ms (b ∷ zs) small-behind).1 (omega arith)),
       )
 
@@ -153,7 +154,7 @@ module _ (ps ms zs : List SectionCode) (a b : SectionCode) (R Q : List ℕ) (i j
   cut-words : cutOut j n (set (A ++ (wa ∷ (M ++ (wb ∷ (Z ++ R))))) i (mergedWord wa wb)) ≡ (A ++ (mergedWord wa wb ∷ (M ++ Z))) ++ (0 ∷ R)
   cut-words =
       let k : j + 1 + length Z ≡ n = omega (arith, words-length kz zs) in
-      rw (set_at A wa (M ++ (wb ∷ (Z ++ R))) (mergedWord wa wb) i len-A, regroup (mergedWord wa wb) (wb ∷ (Z ++ R)), cut_at (A ++ (mergedWord wa wb ∷ M)) wb Z R j n (front (mergedWord wa wb)) k)
+      rw (set_at A wa (M ++ (wb ∷ (Z ++ R))) (mergedWord wa wb) i len-A, regroup (mergedWord wa wb) (wb ∷ (Z ++ R)), cut-at (A ++ (mergedWord wa wb ∷ M)) wb Z R j n (front (mergedWord wa wb)) k)
       (ap (λ (x : List ℕ). x ++ (0 ∷ R)) (append_assoc A (mergedWord wa wb ∷ M) Z))
 
   len-new : length new ≡ n - 1
@@ -199,28 +200,28 @@ module _ (ps ms zs : List SectionCode) (a b : SectionCode) (R Q : List ℕ) (i j
       map (jumpFallen j) (take e t) ++ drop e t ≡ map insWord (allCode (map (ren (fall j)) new)) ++ Q
   instrs-after t p =
       let l : length (map insWord (allCode new)) ≡ e = length-map (allCode new) insWord ∙ code-new in
-      rw (p, turned-code, take_at (map insWord (allCode new)) Q e l, drop_at (map insWord (allCode new)) Q e l, jumps-fall j (allCode new) (code-small new small-new), code_map (fall j) new)
+      rw (p, turned-code, take_at (map insWord (allCode new)) Q e l, drop_at (map insWord (allCode new)) Q e l, jumps-fall j (allCode new) (code-small new small-new), code-map (fall j) new)
 
   steps : Steps (A ++ (wa ∷ (M ++ (wb ∷ (Z ++ R))))) (map insWord (allCode (ps ++ (a ∷ (ms ++ (b ∷ zs))))) ++ Q) n e i j (map (ren (fall j)) new)
-  unfolding count_of
+  unfolding countOf
   steps =
       let l = lengths in
-      let len : length (runWords 0 (ps ++ (a ∷ (ms ++ (b ∷ zs))))) ≡ n = words-length 0 (ps ++ (a ∷ (ms ++ (b ∷ zs)))) ∙ all_of in
-      let rest : drop n (A ++ (wa ∷ (M ++ (wb ∷ (Z ++ R))))) ≡ R = rw (← words_are) (drop_at (runWords 0 (ps ++ (a ∷ (ms ++ (b ∷ zs))))) R n len) in
+      let len : length (runWords 0 (ps ++ (a ∷ (ms ++ (b ∷ zs))))) ≡ n = words-length 0 (ps ++ (a ∷ (ms ++ (b ∷ zs)))) ∙ whole-length in
+      let rest : drop n (A ++ (wa ∷ (M ++ (wb ∷ (Z ++ R))))) ≡ R = rw (← words-are) (drop_at (runWords 0 (ps ++ (a ∷ (ms ++ (b ∷ zs))))) R n len) in
       let code : drop e (map insWord (allCode (ps ++ (a ∷ (ms ++ (b ∷ zs))))) ++ Q) ≡ Q = drop_at (map insWord (allCode (ps ++ (a ∷ (ms ++ (b ∷ zs)))))) Q e (length-map (allCode (ps ++ (a ∷ (ms ++ (b ∷ zs))))) insWord ∙ he) in
       let after : length (runWords 0 (map (ren (fall j)) new)) ≡ n - 1 = words-length 0 (map (ren (fall j)) new) ∙ length-map new (ren (fall j)) ∙ len-new in
       let some : 0 < n = omega arith in
       record {
-        apart = rw (at_i, at_j, first-a, count-a, first-b) (omega arith);
-        inside = rw (at_j, first-b, count-b) (omega arith);
-        counts = rw (at_i, at_j, count-a, count-b) (omega arith);
-        all = rw (at_i, at_j) total-after;
-        sections = λ s p. sections-after s (rw (at_i, at_j) at p) ∙ (ap (λ (x : List ℕ). runWords 0 (map (ren (fall j)) new) ++ (0 ∷ x)) (sym rest) ∙ freed n (runWords 0 (map (ren (fall j)) new)) (A ++ (wa ∷ (M ++ (wb ∷ (Z ++ R))))) after some);
-        instrs = λ t p. rw code (instrs-after t (rw (at_i, at_j) at p));
+        apart = rw (at-i, at-j, first-a, count-a, first-b) (omega arith);
+        inside = rw (at-j, first-b, count-b) (omega arith);
+        counts = rw (at-i, at-j, count-a, count-b) (omega arith);
+        all = rw (at-i, at-j) total-after;
+        sections = λ s p. sections-after s (rw (at-i, at-j) at p) ∙ (ap (λ (x : List ℕ). runWords 0 (map (ren (fall j)) new) ++ (0 ∷ x)) (sym rest) ∙ freed n (runWords 0 (map (ren (fall j)) new)) (A ++ (wa ∷ (M ++ (wb ∷ (Z ++ R))))) after some);
+        instrs = λ t p. rw code (instrs-after t (rw (at-i, at-j) at p));
       }
     where
-      all_of : length (ps ++ (a ∷ (ms ++ (b ∷ zs)))) ≡ n
-      all_of = length-append ps (a ∷ (ms ++ (b ∷ zs))) ∙ ends (length (ms ++ (b ∷ zs))) (length-append ms (b ∷ zs))
+      whole-length : length (ps ++ (a ∷ (ms ++ (b ∷ zs)))) ≡ n
+      whole-length = length-append ps (a ∷ (ms ++ (b ∷ zs))) ∙ ends (length (ms ++ (b ∷ zs))) (length-append ms (b ∷ zs))
         where
           ends : (x : ℕ) → x ≡ length ms + suc (length zs) → length ps + suc x ≡ n
           ends x p = omega arith
@@ -283,7 +284,7 @@ module _ (S I : List ℕ) (n e : ℕ) (ss : List SectionCode) (h : Holds S I n e
     pub joins : Steps S I n e i j (combineAt ss i j)
     joins =
         let s = steps ps ms zs a b (drop n S) (drop e I) i j n e len-ps len-ms len-zs small-whole code-whole h.short in
-        let w = words ∙ words_are ps ms zs a b (drop n S) (drop e I) i j n e len-ps len-ms len-zs small-whole code-whole h.short in
+        let w = words ∙ words-are ps ms zs a b (drop n S) (drop e I) i j n e len-ps len-ms len-zs small-whole code-whole h.short in
         subst (λ (x : List SectionCode). Steps S I n e i j x) combined (subst (λ (x : List ℕ). Steps S x n e i j (map (ren (fall j)) (ps ++ (joined a b ∷ (ms ++ zs))))) (sym code) (subst (λ (x : List ℕ). Steps x (map insWord (allCode (ps ++ (a ∷ (ms ++ (b ∷ zs))))) ++ drop e I) n e i j (map (ren (fall j)) (ps ++ (joined a b ∷ (ms ++ zs))))) (sym w) s))
 
     -- the words hold the join
@@ -291,12 +292,12 @@ module _ (S I : List ℕ) (n e : ℕ) (ss : List SectionCode) (h : Holds S I n e
     unfolding put
     join-holds s t c =
         let len_of : length (combineAt ss i j) ≡ n - 1 = ap length (sym combined) ∙ length-map (ps ++ (joined a b ∷ (ms ++ zs))) (ren (fall j)) ∙ len-new ps ms zs a b (drop n S) (drop e I) i j n e len-ps len-ms len-zs small-whole code-whole h.short in
-        let code_of : length (allCode (combineAt ss i j)) ≡ e = ap (λ (x : List SectionCode). length (allCode x)) (sym combined) ∙ ap length (code_map (fall j) (ps ++ (joined a b ∷ (ms ++ zs)))) ∙ length-map (allCode (ps ++ (joined a b ∷ (ms ++ zs)))) (renIns (fall j)) ∙ code-new ps ms zs a b (drop n S) (drop e I) i j n e len-ps len-ms len-zs small-whole code-whole h.short in
+        let codeOf : length (allCode (combineAt ss i j)) ≡ e = ap (λ (x : List SectionCode). length (allCode x)) (sym combined) ∙ ap length (code-map (fall j) (ps ++ (joined a b ∷ (ms ++ zs)))) ∙ length-map (allCode (ps ++ (joined a b ∷ (ms ++ zs)))) (renIns (fall j)) ∙ code-new ps ms zs a b (drop n S) (drop e I) i j n e len-ps len-ms len-zs small-whole code-whole h.short in
         record {
           sections = ap (take (n - 1)) c.sections ∙ take_at (runWords 0 (combineAt ss i j)) _ (n - 1) (words-length 0 (combineAt ss i j) ∙ len_of);
-          instrs = ap (take e) c.instrs ∙ take_at (map insWord (allCode (combineAt ss i j))) (drop e I) e (length-map (allCode (combineAt ss i j)) insWord ∙ code_of);
+          instrs = ap (take e) c.instrs ∙ take_at (map insWord (allCode (combineAt ss i j))) (drop e I) e (length-map (allCode (combineAt ss i j)) insWord ∙ codeOf);
           count = len_of;
-          code = code_of;
+          code = codeOf;
           few = omega (arith, h.few);
           short = h.short;
           small = subst (All SectSmall) combined (small-fall j (ps ++ (joined a b ∷ (ms ++ zs))) (small-new ps ms zs a b (drop n S) (drop e I) i j n e len-ps len-ms len-zs small-whole code-whole h.short));

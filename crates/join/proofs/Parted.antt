@@ -19,11 +19,11 @@ cut-two {A} d l i j p q =
     let front : take j l ≡ take i l ++ (get_or l i d ∷ slice (suc i) j l) = split_at (take j l) i d h ∙ rw (take-take i j l k, get_or-take j l i d p) in
     split_at l j d q ∙ ap (λ (x : List A). x ++ (get_or l j d ∷ drop (suc j) l)) front ∙ append_assoc (take i l) (get_or l i d ∷ slice (suc i) j l) (get_or l j d ∷ drop (suc j) l)
 
-without_at : {A : Type 0} (p : List A) (x : A) (q : List A) (n : ℕ) → length p ≡ n → without (p ++ (x ∷ q)) n ≡ p ++ q
-without_at [] x q zero h = refl
-without_at [] x q (suc n) h = absurd (omega arith)
-without_at (y ∷ p) x q zero h = absurd (omega arith)
-without_at {A} (y ∷ p) x q (suc n) h = ap (λ (r : List A). y ∷ r) (without_at p x q n (omega arith))
+without-at : {A : Type 0} (p : List A) (x : A) (q : List A) (n : ℕ) → length p ≡ n → without (p ++ (x ∷ q)) n ≡ p ++ q
+without-at [] x q zero h = refl
+without-at [] x q (suc n) h = absurd (omega arith)
+without-at (y ∷ p) x q zero h = absurd (omega arith)
+without-at {A} (y ∷ p) x q (suc n) h = ap (λ (r : List A). y ∷ r) (without-at p x q n (omega arith))
 
 -- ---- the join
 
@@ -37,24 +37,24 @@ module _ (ps ms zs : List SectionCode) (a b : SectionCode) (i j : ℕ) (h : leng
       ends : (l : ℕ) → l ≡ length ms → length ps + suc l ≡ j
       ends l e = omega arith
 
-  at_i : get_or (ps ++ (a ∷ (ms ++ (b ∷ zs)))) i absent ≡ a
-  at_i = get_or_at ps a (ms ++ (b ∷ zs)) absent i h
+  at-i : get_or (ps ++ (a ∷ (ms ++ (b ∷ zs)))) i absent ≡ a
+  at-i = get_or_at ps a (ms ++ (b ∷ zs)) absent i h
 
-  at_j : get_or (ps ++ (a ∷ (ms ++ (b ∷ zs)))) j absent ≡ b
-  at_j = rw (regroup a (b ∷ zs)) (get_or_at (ps ++ (a ∷ ms)) b zs absent j (front a))
+  at-j : get_or (ps ++ (a ∷ (ms ++ (b ∷ zs)))) j absent ≡ b
+  at-j = rw (regroup a (b ∷ zs)) (get_or_at (ps ++ (a ∷ ms)) b zs absent j (front a))
 
   cut : without (set (ps ++ (a ∷ (ms ++ (b ∷ zs)))) i (joined a b)) j ≡ ps ++ (joined a b ∷ (ms ++ zs))
-  cut = rw (set_at ps a (ms ++ (b ∷ zs)) (joined a b) i h, regroup (joined a b) (b ∷ zs), without_at (ps ++ (joined a b ∷ ms)) b zs j (front (joined a b))) (append_assoc ps (joined a b ∷ ms) zs)
+  cut = rw (set_at ps a (ms ++ (b ∷ zs)) (joined a b) i h, regroup (joined a b) (b ∷ zs), without-at (ps ++ (joined a b ∷ ms)) b zs j (front (joined a b))) (append_assoc ps (joined a b ∷ ms) zs)
 
   pub join-parts : combineAt (ps ++ (a ∷ (ms ++ (b ∷ zs)))) i j ≡ map (ren (fall j)) (ps ++ (joined a b ∷ (ms ++ zs)))
   unfolding combineAt
-  join-parts = rw (at_i, at_j) (ap (map (ren (fall j))) cut)
+  join-parts = rw (at-i, at-j) (ap (map (ren (fall j))) cut)
 
 -- ---- its code
 
-pub code_map : (f : ℕ → ℕ) (xs : List SectionCode) → allCode (map (ren f) xs) ≡ map (renIns f) (allCode xs)
-code_map f [] = rw code-nil
-code_map f (x ∷ xs) = rw (code-cons (ren f x) (map (ren f) xs), code-cons x xs, map-append, code_map f xs)
+pub code-map : (f : ℕ → ℕ) (xs : List SectionCode) → allCode (map (ren f) xs) ≡ map (renIns f) (allCode xs)
+code-map f [] = rw code-nil
+code-map f (x ∷ xs) = rw (code-cons (ren f x) (map (ren f) xs), code-cons x xs, map-append, code-map f xs)
 
 module _ (ps ms zs : List SectionCode) (a b : SectionCode) where
   pub code-before : allCode (ps ++ (a ∷ (ms ++ (b ∷ zs)))) ≡ (allCode ps ++ a.instrs) ++ (allCode ms ++ (b.instrs ++ allCode zs))

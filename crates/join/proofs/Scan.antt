@@ -6,9 +6,9 @@ use native.Mathlib.Omega.{arith}
 use native.Mathlib.Numerals.{add-one}
 use lib.ListN.{length, take, drop, get_or, set, take-append-drop}
 use lib.Seq.{slice, slice-cons, slice_empty, append_snoc, set_split}
-use Rattle.tables.specs.Runs.{count_of, total, Down}
-use Rattle.tables.proofs.InPlace.{set-taken, set-left, set_rest, drop-take}
-use Rattle.join.specs.Passes.{cutOut, word_at, numbered}
+use Rattle.tables.specs.Runs.{countOf, total, Down}
+use Rattle.tables.proofs.InPlace.{set-taken, set-left, set-rest, drop-take}
+use Rattle.join.specs.Passes.{cutOut, wordAt, numbered}
 
 -- ---- numbered anew
 module _ (j : ℕ) (s : List ℕ) (i n k : ℕ) where
@@ -16,16 +16,16 @@ module _ (j : ℕ) (s : List ℕ) (i n k : ℕ) where
   unfolding numbered
   number-done a b = let e : i ≡ n = omega arith in rw (e, slice_empty) (take-append-drop n s)
 
-  pub number_more : i < n → n ≤ length s → (v : ℕ) → v ≡ word_at j k (get_or s i 0) →
-      take (i + 1) (set s i v) ++ (numbered j (k + count_of (get_or s i 0)) (slice (i + 1) n (set s i v)) ++ drop n (set s i v)) ≡ take i s ++ (numbered j k (slice i n s) ++ drop n s)
+  pub number-more : i < n → n ≤ length s → (v : ℕ) → v ≡ wordAt j k (get_or s i 0) →
+      take (i + 1) (set s i v) ++ (numbered j (k + countOf (get_or s i 0)) (slice (i + 1) n (set s i v)) ++ drop n (set s i v)) ≡ take i s ++ (numbered j k (slice i n s) ++ drop n s)
   unfolding numbered
-  number_more h l v e =
+  number-more h l v e =
       let z : i < i + 1 = omega arith in
-      rw (set-taken s i n v h l, set-left s i n v h l (i + 1) z, set_rest s i n v h l, slice-cons i n s 0 h l, add-one, e)
-      (append_snoc (take i s) (word_at j k (get_or s i 0)) (numbered j (k + count_of (get_or s i 0)) (slice (suc i) n s) ++ drop n s))
+      rw (set-taken s i n v h l, set-left s i n v h l (i + 1) z, set-rest s i n v h l, slice-cons i n s 0 h l, add-one, e)
+      (append_snoc (take i s) (wordAt j k (get_or s i 0)) (numbered j (k + countOf (get_or s i 0)) (slice (suc i) n s) ++ drop n s))
 
   -- what is left of the counts
-  pub total-more : i < n → n ≤ length s → (v : ℕ) → count_of (get_or s i 0) + total (slice (i + 1) n (set s i v)) ≡ total (slice i n s)
+  pub total-more : i < n → n ≤ length s → (v : ℕ) → countOf (get_or s i 0) + total (slice (i + 1) n (set s i v)) ≡ total (slice i n s)
   unfolding total
   total-more h l v = let z : i < i + 1 = omega arith in rw (set-left s i n v h l (i + 1) z, slice-cons i n s 0 h l, add-one)
 

@@ -6,7 +6,7 @@ use Rattle.rules.specs.Word.{insWord}
 use Rattle.rules.specs.Machine.{SectionOrLine, unfixed, section, line, SectionCode}
 use Rattle.rules.specs.Tables.{allCode}
 use Rattle.rules.specs.Clean.{renIns, renNext, ren}
-use Rattle.rules.specs.Demand.{All}
+use Rattle.rules.specs.Preservation.{All}
 use Rattle.laws.specs.Words.{InsSmall, ins-back}
 use Rattle.laws.specs.Lists.{all-append}
 use Rattle.laws.specs.SectionWord.{NextSmall}

@@ -1,4 +1,5 @@
 -- Which section a section's word tells, and what the passes of a join make of words that tell sections. Assumes nothing.
+use Rattle.rules.specs.Constants.{mostCount}
 use Rattle.std.specs.Prelude.{◌≡◌, refl, List, [], ◌∷◌, ◌++◌, map, ℕ, suc, ◌+◌, ◌<◌, ◌≤◌, length}
 use Rattle.std.proofs.Common.{sym, ap, ◌∙◌, arith, length-append}
 use Rattle.std.proofs.lemmas.List.{length-map}
@@ -9,12 +10,12 @@ use Rattle.rules.specs.Machine.{SectionCode}
 use Rattle.rules.specs.Tables.{successOf, runWords, allCode, runOf}
 use Rattle.rules.specs.Clean.{renNext, ren}
 use Rattle.rules.specs.Combine.{joined}
-use Rattle.rules.specs.Demand.{All}
+use Rattle.rules.specs.Preservation.{All}
 use Rattle.laws.specs.SectionWord.{NextSmall, start-is, next-is, count-is}
 use Rattle.laws.specs.Sections.{words-nil, words-cons, code-nil, code-cons}
 use Rattle.join.specs.Held.{SectSmall}
-use Rattle.tables.specs.Runs.{count_of, total}
-use Rattle.join.specs.Passes.{mergedWord, word_at, numbered}
+use Rattle.tables.specs.Runs.{countOf, total}
+use Rattle.join.specs.Passes.{mergedWord, wordAt, numbered}
 
 -- the word w tells the section s, wherever its run begins
 pub record Tells (w : ℕ) (s : SectionCode) : Type 0 where
@@ -41,7 +42,7 @@ pub code-longer : (s : SectionCode) (ss : List SectionCode) → length (allCode 
 code-longer s ss = ap length (code-cons s ss) ∙ length-append s.instrs (allCode ss)
 
 -- the word of a section tells it
-pub tells : (s : SectionCode) (k : ℕ) → SectSmall s → k + length s.instrs ≤ 65535 → Tells (runWord (runOf s.lineStart s.success k (length s.instrs))) s
+pub tells : (s : SectionCode) (k : ℕ) → SectSmall s → k + length s.instrs ≤ mostCount → Tells (runWord (runOf s.lineStart s.success k (length s.instrs))) s
 tells s k h l =
     let p : k < 65536 = omega arith in
     let q : length s.instrs < 65536 = omega arith in
@@ -51,7 +52,7 @@ tells s k h l =
       count = count-is s.lineStart s.success k (length s.instrs) h.0 p q;
     }
 
-pub tell : (ss : List SectionCode) (k : ℕ) → All SectSmall ss → k + length (allCode ss) ≤ 65535 → Tell (runWords k ss) ss
+pub tell : (ss : List SectionCode) (k : ℕ) → All SectSmall ss → k + length (allCode ss) ≤ mostCount → Tell (runWords k ss) ss
 tell [] k h l = rw words-nil tt
 tell (s ∷ ss) k h l =
     let z = code-longer s ss in
@@ -60,7 +61,7 @@ tell (s ∷ ss) k h l =
 -- ---- what the passes make of them
 
 -- the word of b joined behind a
-pub merged : (u v : ℕ) (a b : SectionCode) → Tells u a → Tells v b → NextSmall b.success → (wordRun u).first < 65536 → length a.instrs + length b.instrs ≤ 65535 → Tells (mergedWord u v) (joined a b)
+pub merged : (u v : ℕ) (a b : SectionCode) → Tells u a → Tells v b → NextSmall b.success → (wordRun u).first < 65536 → length a.instrs + length b.instrs ≤ mostCount → Tells (mergedWord u v) (joined a b)
 unfolding mergedWord
 merged u v a b p q h f l =
     let c : (wordRun u).count + (wordRun v).count < 65536 = omega (arith, p.count, q.count) in
@@ -74,20 +75,20 @@ merged u v a b p q h f l =
       count = count-is x y (wordRun u).first d n f c ∙ (rw (p.count, q.count) (sym (length-append a.instrs b.instrs)));
     }
 
-word-at : (j k w : ℕ) (s : SectionCode) → Tells w s → word_at j k w ≡ runWord (runOf s.lineStart (renNext (fall j) s.success) k (length s.instrs))
-unfolding word_at
+word-at : (j k w : ℕ) (s : SectionCode) → Tells w s → wordAt j k w ≡ runWord (runOf s.lineStart (renNext (fall j) s.success) k (length s.instrs))
+unfolding wordAt
 word-at j k w s t = rw (t.start, t.next, t.count)
 
 no-numbers : (j k : ℕ) → numbered j k [] ≡ []
 unfolding numbered
 no-numbers j k = refl
 
-numbers-cons : (j k w : ℕ) (ws : List ℕ) → numbered j k (w ∷ ws) ≡ word_at j k w ∷ numbered j (k + count_of w) ws
+numbers-cons : (j k w : ℕ) (ws : List ℕ) → numbered j k (w ∷ ws) ≡ wordAt j k w ∷ numbered j (k + countOf w) ws
 unfolding numbered
 numbers-cons j k w ws = refl
 
-tells-count : (w : ℕ) (s : SectionCode) → Tells w s → count_of w ≡ length s.instrs
-unfolding count_of
+tells-count : (w : ℕ) (s : SectionCode) → Tells w s → countOf w ≡ length s.instrs
+unfolding countOf
 tells-count w s t = t.count
 
 -- words numbered anew are the words of their sections, whose targets fall

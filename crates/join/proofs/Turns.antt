@@ -9,8 +9,8 @@ use lib.Seq.{slice, slice-cons, length-slice, length-take-le, take-suc, drop-con
 use Rattle.join.specs.Parts.{turned, exchanged}
 use Rattle.tables.proofs.InPlace.{set-taken, set-left}
 
-slice_snoc : (a h : ℕ) (l : List ℕ) → a ≤ h → h < length l → slice a (suc h) l ≡ slice a h l ++ (get_or l h 0 ∷ [])
-slice_snoc a h l k n =
+slice-snoc : (a h : ℕ) (l : List ℕ) → a ≤ h → h < length l → slice a (suc h) l ≡ slice a h l ++ (get_or l h 0 ∷ [])
+slice-snoc a h l k n =
     let z : length (take h l) ≡ h = length-take-le h l (omega arith) in
     let y : a ≤ length (take h l) = omega arith in
     rw (take-suc l h 0 n, drop-append-le a (take h l) (get_or l h 0 ∷ []) y)
@@ -63,11 +63,11 @@ module _ (l : List ℕ) (lo h : ℕ) (k : lo < h) (n : h < length l) where
       let z : lo < suc h = omega arith in
       let y : suc h ≤ length l = omega arith in
       let x : lo + 1 ≤ h = omega arith in
-      slice-cons lo (suc h) l 0 z y ∙ ap (λ (r : List ℕ). get_or l lo 0 ∷ r) (rw (← add-one) (slice_snoc (lo + 1) h l x n))
+      slice-cons lo (suc h) l 0 z y ∙ ap (λ (r : List ℕ). get_or l lo 0 ∷ r) (rw (← add-one) (slice-snoc (lo + 1) h l x n))
 
-  pub turn_more : turned (lo + 1) h swapped ≡ turned lo (suc h) l
+  pub turn-more : turned (lo + 1) h swapped ≡ turned lo (suc h) l
   unfolding turned
-  turn_more = rw (front, middle, back, part, reverse-cons, reverse-append) (simp append_assoc)
+  turn-more = rw (front, middle, back, part, reverse-cons, reverse-append) (simp append_assoc)
 
 -- a list cut in three at a and b
 module _ (p x q : List ℕ) (a b : ℕ) (hp : length p ≡ a) (hx : a + length x ≡ b) where

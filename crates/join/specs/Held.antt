@@ -1,10 +1,11 @@
 -- Words that hold sections. `holds-held` (Reads) says that these are the sections read from the words.
+use Rattle.rules.specs.Constants.{mostCount}
 use Rattle.std.specs.Prelude.{◌≡◌, List, ◌++◌, map, ℕ, ◌≤◌, length, take, drop}
 use Rattle.rules.specs.Word.{insWord}
 use Rattle.rules.specs.Machine.{SectionCode}
 use Rattle.rules.specs.Tables.{runWords, allCode}
 use Rattle.rules.specs.Operations.{put}
-use Rattle.rules.specs.Demand.{All}
+use Rattle.rules.specs.Preservation.{All}
 use Rattle.laws.specs.Words.{InsSmall}
 use Rattle.laws.specs.SectionWord.{NextSmall}
 use Rattle.tables.specs.Runs.{held}
@@ -19,8 +20,8 @@ pub record Holds (s i : List ℕ) (n e : ℕ) (ss : List SectionCode) : Type 0 w
   pub instrs : take e i ≡ map insWord (allCode ss)
   pub count : length ss ≡ n
   pub code : length (allCode ss) ≡ e
-  pub few : n ≤ 65535
-  pub short : e ≤ 65535
+  pub few : n ≤ mostCount
+  pub short : e ≤ mostCount
   pub small : All SectSmall ss
 
 -- the words hold what is read from them: each run begins where the one before it ends, and zero bits are zero

@@ -6,7 +6,7 @@ use Rattle.rules.specs.Instr.{fall, removeSection}
 use Rattle.rules.specs.Clean.{renNext}
 use Rattle.rules.specs.Word.{insWord, wordIns, runWord, wordRun}
 use Rattle.rules.specs.Tables.{successOf, runOf}
-use Rattle.tables.specs.Runs.{count_of}
+use Rattle.tables.specs.Runs.{countOf}
 
 -- an instruction's word after the removal of section j
 unfoldable pub jumpFallen : ℕ → ℕ → ℕ
@@ -23,12 +23,12 @@ unfoldable pub cutOut : ℕ → ℕ → List ℕ → List ℕ
 cutOut j n l = take j l ++ (slice (suc j) n l ++ (0 ∷ drop n l))
 
 -- a section's word after the removal of section j, its run at k
-unfoldable pub word_at : ℕ → ℕ → ℕ → ℕ
+unfoldable pub wordAt : ℕ → ℕ → ℕ → ℕ
 unfolding successOf isOne
-word_at j k w = runWord (runOf (isOne (wordRun w).lineStart) (renNext (fall j) (successOf (wordRun w))) k (wordRun w).count)
+wordAt j k w = runWord (runOf (isOne (wordRun w).lineStart) (renNext (fall j) (successOf (wordRun w))) k (wordRun w).count)
 
 -- and so of words, runs end to end from k
 unfoldable pub numbered : ℕ → ℕ → List ℕ → List ℕ
-unfolding word_at count_of
+unfolding wordAt countOf
 numbered j k [] = []
-numbered j k (w ∷ ws) = word_at j k w ∷ numbered j (k + count_of w) ws
+numbered j k (w ∷ ws) = wordAt j k w ∷ numbered j (k + countOf w) ws

@@ -1,11 +1,12 @@
 // Section words: the word of two joined sections, a word removed, and the words after it numbered anew.
 //
 // Each function is shown equal to a list function of specs/Passes, for all words. Counts that are added must fit 16 bits.
+ghost use Rattle.rules.specs.Constants.{mostCount};
 ghost use Rattle.std.specs.Prelude.{◌≡◌, ◌++◌, ◌≤◌, ◌<◌, ◌+◌, length, take, drop};
 ghost use Rattle.rules.specs.Instr as Instr;
 ghost use Rattle.rules.specs.Clean.{renNext};
 ghost use Rattle.words.specs.Runs.{successTold};
-ghost use Rattle.tables.specs.Runs.{count_of, total};
+ghost use Rattle.tables.specs.Runs.{countOf, total};
 ghost use Rattle.join.specs.Passes.{mergedWord, cutOut, numbered};
 
 use tables::shift::move_down;
@@ -14,7 +15,7 @@ use words::section::{SectionOrLine, SectionWord};
 
 // The word of b joined behind a.
 pub fn joined(a: SectionWord, b: SectionWord) -> SectionWord
-    requires { count_of a.0 + count_of b.0 < 65536 }
+    requires { countOf a.0 + countOf b.0 < 65536 }
     ensures { result.0 ≡ mergedWord a.0 b.0 }
 {
     SectionWord::pack(
@@ -54,7 +55,7 @@ fn success_without(success: SectionOrLine, s2: Section) -> SectionOrLine
 
 // The first n sections after the removal of section s2: a successor above it falls by one, and runs stand end to end from 0.
 pub fn renumber(t: &mut [u64], n: usize, s2: Section)
-    requires { (n ≤ length t.old) × (total (take n t.old) ≤ 65535) }
+    requires { (n ≤ length t.old) × (total (take n t.old) ≤ mostCount) }
     ensures { t.new ≡ numbered s2.0 0 (take n t.old) ++ drop n t.old }
 {
     let mut first: u16 = 0;

@@ -6,3 +6,4 @@ pub mod Match
 pub mod Table
 pub mod Lists
 pub mod Sections
+pub mod Texts

@@ -7,8 +7,8 @@ use Rattle.rules.specs.Bits.{isOne}
 use Rattle.rules.specs.Constants.{mark}
 use Rattle.rules.specs.Word.{Run, runWord, wordRun, runSpare}
 use Rattle.rules.specs.Machine.{SectionOrLine, unfixed, section, line}
-use Rattle.rules.specs.Tables.{flag, kind_of, target_of, successOf, runOf}
-use Rattle.laws.specs.Words.{RunSmall, run-back, run-zeros, run_small, run-again}
+use Rattle.rules.specs.Tables.{flag, kindOf, targetOf, successOf, runOf}
+use Rattle.laws.specs.Words.{RunSmall, run-back, run-zeros, wordRun-small, run-again}
 
 -- a successor that a word can hold: the mark is no section
 abbrev pub NextSmall : SectionOrLine → Type 0
@@ -23,14 +23,14 @@ unfolding flag
 flag-lt true = omega arith
 flag-lt false = omega arith
 
-pub kind-lt : (x : SectionOrLine) → kind_of x < 2
-unfolding kind_of
+pub kind-lt : (x : SectionOrLine) → kindOf x < 2
+unfolding kindOf
 kind-lt unfixed = omega arith
 kind-lt (section t) = omega arith
 kind-lt (line r) = omega arith
 
-pub target-lt : (x : SectionOrLine) → NextSmall x → target_of x < 2 ^ 16
-unfolding target_of
+pub target-lt : (x : SectionOrLine) → NextSmall x → targetOf x < 2 ^ 16
+unfolding targetOf
 target-lt unfixed h = omega arith
 target-lt (section t) h = omega arith
 target-lt (line r) h = h
@@ -43,8 +43,8 @@ flag-back true = refl
 flag-back false = refl
 
 -- whatever else the fields are
-pub next-back : (x : SectionOrLine) (l f c : ℕ) → NextSmall x → successOf (record { lineStart = l; kind = kind_of x; target = target_of x; first = f; count = c }) ≡ x
-unfolding successOf isOne kind_of target_of
+pub next-back : (x : SectionOrLine) (l f c : ℕ) → NextSmall x → successOf (record { lineStart = l; kind = kindOf x; target = targetOf x; first = f; count = c }) ≡ x
+unfolding successOf isOne kindOf targetOf
 next-back unfixed l f c h = refl
 next-back (section t) l f c h = rw (ne_eqb t mark (λ e. omega arith), successOf)
 next-back (line r) l f c h = refl
@@ -109,21 +109,21 @@ reads r = by (eqb r.kind 1) (eqb r.target mark) refl refl
     by false true e d = nothing (eqb-false _ _ e) (eqb-true _ _ d) (sym (to-none r r.kind r.target refl refl (eqb-false _ _ e) (eqb-true _ _ d)))
     by false false e d = a-section (eqb-false _ _ e) (eqb-false _ _ d) (sym (to-section r r.kind r.target refl refl (eqb-false _ _ e) (eqb-false _ _ d)))
 
-pub target-again : (r : Run) → target_of (successOf r) ≡ r.target
-unfolding target_of
+pub target-again : (r : Run) → targetOf (successOf r) ≡ r.target
+unfolding targetOf
 target-again r = go (reads r)
   where
-    go : Reads r → target_of (successOf r) ≡ r.target
+    go : Reads r → targetOf (successOf r) ≡ r.target
     go (a-line k e) = rw e
     go (nothing k t e) = rw e (sym t)
     go (a-section k t e) = rw e
 
 module _ (r : Run) (h : RunSmall r) where
-  kind-again : kind_of (successOf r) ≡ r.kind
-  unfolding kind_of
+  kind-again : kindOf (successOf r) ≡ r.kind
+  unfolding kindOf
   kind-again = go (reads r)
     where
-      go : Reads r → kind_of (successOf r) ≡ r.kind
+      go : Reads r → kindOf (successOf r) ≡ r.kind
       go (a-line k e) = rw e (sym k)
       go (nothing k t e) = rw e (let b = h.1.0 in omega (arith, k))
       go (a-section k t e) = rw e (let b = h.1.0 in omega (arith, k))
@@ -145,4 +145,4 @@ module _ (r : Run) (h : RunSmall r) where
 
 -- the word of what was read of a word
 pub word-again : (w : ℕ) → w < 2 ^ 64 → runSpare w ≡ 0 → runWord (runOf (isOne (wordRun w).lineStart) (successOf (wordRun w)) (wordRun w).first (wordRun w).count) ≡ w
-word-again w h z = ap runWord (fields-again (wordRun w) (run_small w)) ∙ run-again w h z
+word-again w h z = ap runWord (fields-again (wordRun w) (wordRun-small w)) ∙ run-again w h z

@@ -73,37 +73,37 @@ pub past-jumps : (o : ℕ) (k : Kind × Kind × Kind) → kinds o ≡ some k →
 past-jumps o k e h = leb-false o JumpIfError (sym (place-jumps o (opcode-lt o k e)) ∙ (ap isPlace e ∙ h))
 
 -- is it the kind of a register?
-abbrev pub is_reg : Kind → Bool
-is_reg unused = false
-is_reg num = true
-is_reg str = true
-is_reg val = true
-is_reg place = false
+abbrev pub isReg : Kind → Bool
+isReg unused = false
+isReg num = true
+isReg str = true
+isReg val = true
+isReg place = false
 
 -- the kind of a field by its place
-abbrev pub kind_at : Row → ℕ → Kind
-kind_at r zero = r.kinds.0
-kind_at r (suc zero) = r.kinds.1
-kind_at r (suc (suc n)) = r.kinds.2
+abbrev pub kindAt : Row → ℕ → Kind
+kindAt r zero = r.kinds.0
+kindAt r (suc zero) = r.kinds.1
+kindAt r (suc (suc n)) = r.kinds.2
 
 -- are these fields of a row registers?
 abbrev pub Regs : Row → List ℕ → Type 0
 Regs r [] = Unit {0}
-Regs r (f ∷ fs) = (is_reg (kind_at r f) ≡ true) × Regs r fs
+Regs r (f ∷ fs) = (isReg (kindAt r f) ≡ true) × Regs r fs
 
-regs_of : (r : Row) (fs : List ℕ) → allb (λ f. is_reg (kind_at r f)) fs ≡ true → Regs r fs
-regs_of r [] t = tt
-regs_of r (f ∷ fs) t = let s = split-all (λ g. is_reg (kind_at r g)) f fs t in (s.0, regs_of r fs s.1)
+regs-of : (r : Row) (fs : List ℕ) → allb (λ f. isReg (kindAt r f)) fs ≡ true → Regs r fs
+regs-of r [] t = tt
+regs-of r (f ∷ fs) t = let s = split-all (λ g. isReg (kindAt r g)) f fs t in (s.0, regs-of r fs s.1)
 
 -- what is read are registers, and so is what is modified
 module _ (o : ℕ) (r : Row) (e : some r ≡ get_elem? table o) where
   pub read-regs : Regs r r.reads
   unfolding allb table
-  read-regs = regs_of r r.reads (all-at (λ q. allb (λ f. is_reg (kind_at q f)) q.reads) table o r refl e)
+  read-regs = regs-of r r.reads (all-at (λ q. allb (λ f. isReg (kindAt q f)) q.reads) table o r refl e)
 
-  pub modified-reg : (f : ℕ) → r.modifies ≡ some f → is_reg (kind_at r f) ≡ true
+  pub modified-reg : (f : ℕ) → r.modifies ≡ some f → isReg (kindAt r f) ≡ true
   unfolding allb table
-  modified-reg f m = rw m at (all-at (λ q. elim q.modifies [ none ↦ true | some f ↦ is_reg (kind_at q f) ]) table o r refl e)
+  modified-reg f m = rw m at (all-at (λ q. elim q.modifies [ none ↦ true | some f ↦ isReg (kindAt q f) ]) table o r refl e)
 
 -- ---- an opcode that a rule turns to has 6 bits
 

@@ -60,9 +60,9 @@ module _ (r : Run) (h : RunSmall r) where
   run-zeros = run-field 5
 
 -- what is read is small, and written again it is the word
-pub run_small : (w : ℕ) → RunSmall (wordRun w)
+pub wordRun-small : (w : ℕ) → RunSmall (wordRun w)
 unfolding wordRun
-run_small w = small-take sectionLayout (fields sectionLayout w) 5 (fields-small sectionLayout w)
+wordRun-small w = small-take sectionLayout (fields sectionLayout w) 5 (fields-small sectionLayout w)
 
 pub run-again : (w : ℕ) → w < 2 ^ 64 → runSpare w ≡ 0 → runWord (wordRun w) ≡ w
 unfolding runWord wordRun runSpare

@@ -7,6 +7,7 @@ use native.Mathlib.Numerals.{add-one}
 use native.Mathlib.Omega.{arith}
 use lib.ListN.{length, set}
 use lib.Seq.{sets}
+use Rattle.rules.specs.Constants.{instrsANode}
 use Rattle.rules.specs.Tree.{Block, end, ite, assign, ofBlock, statement, node, both, emptyTally}
 use Rattle.rules.specs.Instr.{Instruction}
 use Rattle.rules.specs.Word.{insWord, runWord}
@@ -24,7 +25,7 @@ use Rattle.stmts.specs.Makes.{Regs, Stored, placed}
 use Rattle.stmts.specs.Lists.{Wrote, only, rest, onward, onwardB, isEnd, Lists}
 use Rattle.stmts.specs.Parts.{own, ownSection, inside, insideSections, insideTally, ownCost, Owns, Insides}
 use Rattle.stmts.proofs.Makes.{assign-most, jump-cost-most, regs-moved}
-use Rattle.stmts.proofs.Lists.{wrote_one, wrote-more, annotate-first, sections-first, single, onward-same, nil-same, made-width, wrote_none, stored-empty}
+use Rattle.stmts.proofs.Lists.{wrote-one, wrote-more, annotate-first, sections-first, single, onward-same, nil-same, made-width, wrote-none, stored-empty}
 use Rattle.stmts.proofs.Parts.{own-sections, own-state}
 use Rattle.line.specs.Lines.{innerNodes, Parted, LineWent}
 
@@ -39,7 +40,7 @@ inner-only (Block.incdec i x xs) = refl
 inner-only (assign x o e xs) = refl
 
 -- own instructions are at most 9 a node of their own
-pub own-most : (x : Block) → ownCost x + 9 * innerNodes x ≤ 9 * (ofBlock x).nodes
+pub own-most : (x : Block) → ownCost x + instrsANode * innerNodes x ≤ instrsANode * (ofBlock x).nodes
 unfolding ownCost rest insideTally innerNodes ofBlock statement node both emptyTally
 own-most end = omega arith
 own-most (Block.goto e xs) = let h = expr-most e in omega arith
@@ -55,7 +56,7 @@ parted {hs} {ts} {n = n} {at = at} x y =
     record {
       code = y.code ∙ ap (λ l. sets l at (map insWord (allCode ts))) x.code;
       heads-end = x.ends;
-      tails_end = y.ends;
+      tails-end = y.ends;
       words = y.words ∙ ap (λ l. sets l n (runWords at ts)) x.words;
     }
 
@@ -66,7 +67,7 @@ unfolding annotateStmts
 line-none {line = line} {n} {head} {c} {t} {se} {se'} w e b g q =
     record {
       regs = q;
-      parted = parted (wrote_one (stored-empty (rw q.err at w) refl)) wrote_none;
+      parted = parted (wrote-one (stored-empty (rw q.err at w) refl)) wrote-none;
     }
 
 -- a line's first section is the statement's own, as a line start
@@ -115,8 +116,8 @@ line-more {m} x {line} {n} {n'} {h} {head} {l'} {c} {d} {f} {r} {t} {t1} {t2} {t
     let k3 = ap (λ (k : List SectionCode). length k) (own-sections true e n h x g s) in
     omega (arith, k1, k2, k3, p) in
     let tw : Wrote ((absent ∷ []) ++ (ins ++ rs)) n c.at r.at t1.instrs t3.instrs se1 se4 =
-    wrote-more (wrote_one pl) (sym (add-one n)) (wrote-more v.wrote len w.wrote) in
-    let hw : Wrote (ownSection true true e n h (only x) own0 ∷ []) line head d.at t.instrs t1.instrs se se1 = wrote_one u.stored in
+    wrote-more (wrote-one pl) (sym (add-one n)) (wrote-more v.wrote len w.wrote) in
+    let hw : Wrote (ownSection true true e n h (only x) own0 ∷ []) line head d.at t.instrs t1.instrs se se1 = wrote-one u.stored in
     let se : stmtSections true e n e (annotateStmts x g).0 ≡ ownSection false true e n h (only x) own0 ∷ (ins ++ rs) = ap (λ (k : ℕ). stmtSections true e n k (annotateStmts x g).0) (sym y.err) ∙ ss in
     record {
       regs = rw (annotate-first x g) w.regs;

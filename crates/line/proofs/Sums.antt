@@ -2,24 +2,24 @@
 use mathlib.Core.Path.{◌≡◌, refl, sym, ap, ◌∙◌}
 use mathlib.Core.Bool.{Bool, false}
 use mathlib.Core.List.{List}
-use Prim.Native.Nat.{ℕ, zero, suc, ◌+◌, ◌-◌, ◌/◌, ◌%◌, ◌≤◌, ◌<◌}
+use Prim.Native.Nat.{ℕ, zero, suc, ◌+◌, ◌-◌, ◌≤◌, ◌<◌}
 use native.Mathlib.Omega.{arith}
 use native.Mathlib.Nat.{add-zero}
 use lib.ListN.{length, get_or}
 use Rattle.rules.specs.Constants.{mostBytes, mostNames}
 use Rattle.rules.specs.Tree.{Expr, Gt, Atan, Binop, Unop, Block, end, ite, assign}
 use Rattle.rules.specs.Parse.{binops, unops}
-use Rattle.nodes.specs.Words.{binopKind, unopKind, incdecKind, identKind, numberKind, stringKind, gotoKind, stepKind, assignKind, iteKind}
+use Rattle.nodes.specs.Words.{binopKind, unopKind, incdecKind, identKind, numberKind, stringKind, gotoKind, stepKind, assignKind, iteKind, kindIn, lastIn, nameIn, opIn}
 use Rattle.nodes.proofs.Blocks.{is-end, is-step, tag, kind-held}
 use Rattle.stmts.specs.Lists.{isEnd, only}
 use Rattle.stmts.proofs.Splits.{split}
-use Rattle.stmts.proofs.Places.{goto-at, step-at, assign-at, ite-at, empty-same, not_end}
+use Rattle.stmts.proofs.Places.{goto-at, step-at, assign-at, ite-at, empty-same, not-end}
 use Rattle.nodes.specs.Holds.{HoldsE, HoldsB, at-binop, at-unop, at-incdec, at-ident, at-number, at-string}
 use Rattle.nodes.proofs.Words.{unpacked}
 use Rattle.nodes.proofs.Table.{grows}
 use Rattle.nodes.proofs.Exprs.{op-small}
 use Rattle.codegen.specs.Costs.{binopCost, unopCost}
-use Rattle.codegen.proofs.Lists.{found}
+use Rattle.laws.specs.Lists.{at-elem}
 use Rattle.exprs.specs.Exprs.{exprCost}
 use Rattle.stmts.specs.Makes.{jumpCost}
 use Rattle.stmts.specs.Parts.{ownCost}
@@ -68,7 +68,7 @@ nothing t j = let e : j - j ≡ 0 = omega arith in rw e
 
 -- ---- expressions
 
-cost-of : (w k o a c : ℕ) → w % 16 ≡ k → w / 16 % 16 ≡ o → w / 256 % 256 ≡ a → kindCost k o a ≡ c → nodeCost w ≡ c
+cost-of : (w k o a c : ℕ) → kindIn w ≡ k → opIn w ≡ o → nameIn w ≡ a → kindCost k o a ≡ c → nodeCost w ≡ c
 unfolding nodeCost
 cost-of w k o a c p q r e = rw (p, q, r) e
 
@@ -81,14 +81,14 @@ expr-costs {t} {i = i} a c (at-binop {h = h} {j = j} {k = k} op o p w q l r) =
     let g2 = grows r in
     let x1 = expr-costs a c l in
     let x2 = expr-costs a c r in
-    let z = cost-of _ binopKind op 0 (2 + binopCost o) u.kind-is u.op-is u.name-is (ap (λ (b : Binop). 2 + binopCost b) (found binops op Gt o p)) in
+    let z = cost-of _ binopKind op 0 (2 + binopCost o) u.kind-is u.op-is u.name-is (ap (λ (b : Binop). 2 + binopCost b) (at-elem binops op Gt o p)) in
     omega (arith, node-two t i j k (omega arith) (omega arith), ap (λ (n : ℕ). costs t n (j - n)) q)
 expr-costs {t} {i = i} a c (at-unop {h = h} {j = j} op o p w q r) =
     let y = op-small unops op p in
     let u = unpacked unopKind op 0 0 _ 0 _ (omega arith) w in
     let g2 = grows r in
     let x2 = expr-costs a c r in
-    let z = cost-of _ unopKind op 0 (1 + unopCost o) u.kind-is u.op-is u.name-is (ap (λ (b : Unop). 1 + unopCost b) (found unops op Atan o p)) in
+    let z = cost-of _ unopKind op 0 (1 + unopCost o) u.kind-is u.op-is u.name-is (ap (λ (b : Unop). 1 + unopCost b) (at-elem unops op Atan o p)) in
     let n0 : costs t j (j - j) ≡ 0 = nothing t j in
     omega (arith, node-two t i j j (omega arith) (omega arith), ap (λ (n : ℕ). costs t n (j - n)) q)
 expr-costs {t} {i = i} {j = j} a c (at-incdec b f x p g) =
@@ -126,27 +126,27 @@ own-only (Block.incdec i x xs) = refl
 own-only (assign x o e xs) = refl
 
 module _ {t s : List ℕ} {m i z : ℕ} {x : Block} (a : length s ≤ mostBytes) (c : m ≤ mostNames) (h : HoldsB t s m 1 i x z) where
-  goto-cost : get_or t i 0 % 16 ≡ gotoKind → costs t i (z - i) ≡ ownCost x
+  goto-cost : kindIn (get_or t i 0) ≡ gotoKind → costs t i (z - i) ≡ ownCost x
   unfolding ownCost kindCost
   goto-cost k =
       let b = goto-at h k in
       let g = grows b.to in
       rw b.is (node-expr t i z 2 _ (omega arith) (cost-of _ gotoKind _ _ 2 k refl refl refl) (expr-costs a c b.to))
 
-  assign-cost : get_or t i 0 % 16 ≡ assignKind → costs t i (z - i) ≡ ownCost x
+  assign-cost : kindIn (get_or t i 0) ≡ assignKind → costs t i (z - i) ≡ ownCost x
   unfolding ownCost kindCost
   assign-cost k =
       let b = assign-at c h k in
       let g = grows b.value in
       rw b.is (node-expr t i z _ _ (omega arith) (cost-of _ assignKind _ _ _ k refl refl refl) (expr-costs a c b.value))
 
-  step-cost : get_or t i 0 % 16 ≡ stepKind → z ≡ i + 1 → costs t i (z - i) ≡ ownCost x
+  step-cost : kindIn (get_or t i 0) ≡ stepKind → z ≡ i + 1 → costs t i (z - i) ≡ ownCost x
   unfolding ownCost kindCost
   step-cost k e =
       let b = step-at c h k in
       rw b.is (node-one t i z e ∙ cost-of _ stepKind _ _ 2 k refl refl refl)
 
-  ite-cost : get_or t i 0 % 16 ≡ iteKind → costs t i (get_or t (i + 1) 0 / 281474976710656 - i) ≡ ownCost x
+  ite-cost : kindIn (get_or t i 0) ≡ iteKind → costs t i (lastIn (get_or t (i + 1) 0) - i) ≡ ownCost x
   unfolding ownCost kindCost
   ite-cost k =
       let b = ite-at a c h k in
@@ -155,28 +155,28 @@ module _ {t s : List ℕ} {m i z : ℕ} {x : Block} (a : length s ≤ mostBytes)
       rw b.is (omega arith)
 
   -- where a step ends
-  step_end : get_or t i 0 % 16 ≡ stepKind → z ≡ i + 1
-  step_end k =
+  step-end : kindIn (get_or t i 0) ≡ stepKind → z ≡ i + 1
+  step-end k =
       let b = is-step (omega arith) h k in
       let n = b.count in
       let f = is-end b.others (omega arith) in
       let g = b.flag.last in
       sym f.here ∙ g
 
-  by_kind : (get_or t i 0 % 16 ≡ iteKind → ⊥) → get_or t i 0 % 16 ≡ tag x + 8 → costs t i (z - i) ≡ ownCost x
+  by-kind : (kindIn (get_or t i 0) ≡ iteKind → ⊥) → kindIn (get_or t i 0) ≡ tag x + 8 → costs t i (z - i) ≡ ownCost x
   unfolding tag
-  by_kind k q = go x (sym q) (not_end h (λ y. omega arith))
+  by-kind k q = go x (sym q) (not-end h (λ y. omega arith))
     where
-      go : (y : Block) → tag y + 8 ≡ get_or t i 0 % 16 → isEnd y ≡ false → costs t i (z - i) ≡ ownCost x
+      go : (y : Block) → tag y + 8 ≡ kindIn (get_or t i 0) → isEnd y ≡ false → costs t i (z - i) ≡ ownCost x
       go end e n = absurd (let w : ◌≡◌ {A = ℕ} 0 1 = cc in omega arith)
       go (Block.goto v xs) e n = goto-cost (sym e)
       go (ite v y w xs) e n = absurd (k (sym e))
-      go (Block.incdec f y xs) e n = step-cost (sym e) (step_end (sym e))
+      go (Block.incdec f y xs) e n = step-cost (sym e) (step-end (sym e))
       go (assign y o v xs) e n = assign-cost (sym e)
 
 -- the whole list's first statement
-pub own-other : {t s : List ℕ} {m n i z : ℕ} {x : Block} → length s ≤ mostBytes → m ≤ mostNames → 0 < n → HoldsB t s m n i x z → (get_or t i 0 % 16 ≡ iteKind → ⊥) → costs t i (get_or t i 0 / 281474976710656 - i) ≡ ownCost x
-own-other {x = x} a c p h k = let s = split a c p h in by_kind a c s.head k (kind-held (omega arith) s.head) ∙ own-only x
+pub own-other : {t s : List ℕ} {m n i z : ℕ} {x : Block} → length s ≤ mostBytes → m ≤ mostNames → 0 < n → HoldsB t s m n i x z → (kindIn (get_or t i 0) ≡ iteKind → ⊥) → costs t i (lastIn (get_or t i 0) - i) ≡ ownCost x
+own-other {x = x} a c p h k = let s = split a c p h in by-kind a c s.head k (kind-held (omega arith) s.head) ∙ own-only x
 
-pub own-ite : {t s : List ℕ} {m n i z : ℕ} {x : Block} → length s ≤ mostBytes → m ≤ mostNames → 0 < n → HoldsB t s m n i x z → get_or t i 0 % 16 ≡ iteKind → costs t i (get_or t (i + 1) 0 / 281474976710656 - i) ≡ ownCost x
+pub own-ite : {t s : List ℕ} {m n i z : ℕ} {x : Block} → length s ≤ mostBytes → m ≤ mostNames → 0 < n → HoldsB t s m n i x z → kindIn (get_or t i 0) ≡ iteKind → costs t i (lastIn (get_or t (i + 1) 0) - i) ≡ ownCost x
 own-ite {x = x} a c p h k = let s = split a c p h in ite-cost a c s.head k ∙ own-only x

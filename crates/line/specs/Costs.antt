@@ -1,10 +1,10 @@
 -- How many instructions a node gives by its word, and the nodes of a range. The first sections of all lines stand first in the table of
 -- instructions, so their own instructions are counted before lowering starts.
-use Rattle.std.specs.Prelude.{cond, List, ℕ, zero, suc, ◌+◌, ◌/◌, ◌%◌, ◌≤◌, ◌<◌, eqb, get_or}
+use Rattle.std.specs.Prelude.{cond, List, ℕ, zero, suc, ◌+◌, ◌≤◌, ◌<◌, eqb, get_or}
 use Rattle.rules.specs.Constants.{mostNodes}
 use Rattle.rules.specs.Tree.{Gt, Atan, PowTo}
 use Rattle.rules.specs.Parse.{binops, unops, assignops}
-use Rattle.nodes.specs.Words.{binopKind, unopKind, assignKind, identKind, numberKind, stringKind, iteKind}
+use Rattle.nodes.specs.Words.{binopKind, unopKind, assignKind, identKind, numberKind, stringKind, iteKind, kindIn, nameIn, opIn}
 use Rattle.codegen.specs.Costs.{binopCost, unopCost}
 use Rattle.stmts.specs.Told.{assignCost}
 use Rattle.stmts.specs.Makes.{jumpCost}
@@ -19,7 +19,7 @@ kindCost k o a =
     (cond (eqb k identKind) 0 (cond (eqb k numberKind) 1 (cond (eqb k stringKind) 1 (cond (eqb k iteKind) (1 + jumpCost (eqb a 0)) 2))))))
 
 unfoldable pub nodeCost : ℕ → ℕ
-nodeCost w = kindCost (w % 16) (w / 16 % 16) (w / 256 % 256)
+nodeCost w = kindCost (kindIn w) (opIn w) (nameIn w)
 
 -- of n nodes from i on
 unfoldable pub costs : List ℕ → ℕ → ℕ → ℕ

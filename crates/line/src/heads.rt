@@ -4,7 +4,7 @@
 // `stmts`). A caller owes operators of 4 bits and a range within the table.
 ghost use Rattle.std.specs.Prelude.{◌≡◌, List, ℕ, ◌-◌, ◌≤◌, ◌<◌, length, get_or};
 ghost use Rattle.rules.specs.Tree.{Gt, Atan, PowTo, Block};
-ghost use Rattle.rules.specs.Constants.{mostBytes, mostNames};
+ghost use Rattle.rules.specs.Constants.{mostBytes, mostNames, mostNodes};
 ghost use Rattle.nodes.specs.Holds.{HoldsB};
 ghost use Rattle.rules.specs.Parse.{binops, unops, assignops};
 ghost use Rattle.codegen.specs.Costs.{binopCost, unopCost};
@@ -101,7 +101,7 @@ pub fn node_cost(w: u64) -> usize
 
 // Of the nodes from i up to `end`.
 pub fn sum_costs(nodes: &[u64], i: usize, end: usize) -> usize
-    requires { (i ≤ end) × (end ≤ length nodes.now) × (end ≤ 2048) }
+    requires { (i ≤ end) × (end ≤ length nodes.now) × (end ≤ mostNodes) }
     ensures { result ≡ costs nodes.now i (end - i) }
 {
     let mut k = i;

@@ -1,7 +1,7 @@
 // A line: its first statement's own section goes to the line's number, as a line start; a placeholder stands where it was made, and the others
 // stand behind that. So there are two cursors into the instructions: one for first sections, one for all others.
 //
-// `codegen_from_line` is shown to make a line's sections as `head_of` and `tailOf` of `rules` part them (`LineDone`). A caller owes the node table
+// `codegen_from_line` is shown to make a line's sections as `headOf` and `tailOf` of `rules` part them (`LineDone`). A caller owes the node table
 // and room.
 ghost use Rattle.std.specs.Prelude.{◌≡◌, ℕ, ◌≤◌, length};
 ghost use Rattle.rules.specs.Constants.{mostNames};

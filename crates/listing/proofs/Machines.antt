@@ -18,24 +18,24 @@ use Rattle.laws.specs.Table.{all-at}
 use Rattle.tables.proofs.Texts.{at_some}
 use Rattle.tables.specs.Runs.{total, held}
 use Rattle.tables.proofs.Sound.{Sound, sound}
-use Rattle.tables.proofs.Read.{read_length, whole-total}
-use Rattle.tables.proofs.Change.{machine_of}
+use Rattle.tables.proofs.Read.{read-length, whole-total}
+use Rattle.tables.proofs.Change.{machineOf}
 use Rattle.text.specs.Wrote.{Room, Wrote, Prints}
 use Rattle.listing.specs.Rows.{countsRow, Inside}
 use Rattle.listing.specs.Listed.{Lists, Listed}
-use Rattle.text.proofs.Writes.{Left, begin, from_start}
+use Rattle.text.proofs.Writes.{Left, begin, from-start}
 
 span-inside : (u : Counts) (w : ℕ) → spanFits u w ≡ true → (wordSpan w).start + (wordSpan w).size ≤ u.pool
 unfolding spanFits
 span-inside u w e = leb-true _ _ (both (eqb (spanSpare w) 0) _ e).1
 
 module _ (t : Tables) (u : Counts) (h : fits t u ≡ true) where
-  decode_is : decode t u ≡ ok (machine_of t u)
+  decode-is : decode t u ≡ ok (machineOf t u)
   unfolding decode held
-  decode_is = rw (h, decode)
+  decode-is = rw (h, decode)
 
-  pub one-machine : (m : Machine) → decode t u ≡ ok m → machine_of t u ≡ m
-  one-machine m d = let z : ok (machine_of t u) ≡ ok m = sym decode_is ∙ d in cc
+  pub one-machine : (m : Machine) → decode t u ≡ ok m → machineOf t u ≡ m
+  one-machine m d = let z : ok (machineOf t u) ≡ ok m = sym decode-is ∙ d in cc
 
 module _ {t : Tables} {u : Counts} {o : List ℕ} (l : Lists t u o) where
   keeps : Sound t u
@@ -55,10 +55,10 @@ module _ {t : Tables} {u : Counts} {o : List ℕ} (l : Lists t u o) where
 
   sections-are : length (held t.sections t.instrs u.sections u.instrs) ≡ u.sections
   unfolding held
-  sections-are = read_length (take u.sections t.sections) (take u.instrs t.instrs) ∙ length-take-le u.sections t.sections keeps.counts.sections
+  sections-are = read-length (take u.sections t.sections) (take u.instrs t.instrs) ∙ length-take-le u.sections t.sections keeps.counts.sections
 
   -- the whole listing is left to write
-  pub starts : Left o 0 (listing (machine_of t u)) o 0 (countsRow u ∷ rowsN 0 (take u.numbers t.numbers) ∷ rowsT (take u.pool t.pool) 0 (map wordSpan (take u.strings t.strings)) ∷ rowsV 0 (take u.names t.names) ∷ rowsS 0 (held t.sections t.instrs u.sections u.instrs) ∷ [])
+  pub starts : Left o 0 (listing (machineOf t u)) o 0 (countsRow u ∷ rowsN 0 (take u.numbers t.numbers) ∷ rowsT (take u.pool t.pool) 0 (map wordSpan (take u.strings t.strings)) ∷ rowsV 0 (take u.names t.names) ∷ rowsS 0 (held t.sections t.instrs u.sections u.instrs) ∷ [])
   unfolding listing countsRow
   starts =
       let s = keeps in
@@ -66,8 +66,8 @@ module _ {t : Tables} {u : Counts} {o : List ℕ} (l : Lists t u o) where
       let k : length (map wordSpan (take u.strings t.strings)) ≡ u.strings = simp length-map (length-take-le u.strings t.strings s.counts.strings) in
       begin o 0 (record { flat-is = rw (sections-are, n, k, append-nil) })
 
-  pub room_for : Room o 0 (listing (machine_of t u))
-  room_for = let h = l.room (machine_of t u) (decode_is t u l.machine) in omega arith
+  pub room-for : Room o 0 (listing (machineOf t u))
+  room-for = let h = l.room (machineOf t u) (decode-is t u l.machine) in omega arith
 
-  pub listed : {o' : List ℕ} {r : ℕ} → Wrote o o' 0 r (listing (machine_of t u)) → Listed t u o o' r
-  listed {o'} {r} w = record { prints = λ m d. subst (λ (x : Machine). Prints o o' r (listing x)) (one-machine t u l.machine m d) (from_start w room_for) }
+  pub listed : {o' : List ℕ} {r : ℕ} → Wrote o o' 0 r (listing (machineOf t u)) → Listed t u o o' r
+  listed {o'} {r} w = record { prints = λ m d. subst (λ (x : Machine). Prints o o' r (listing x)) (one-machine t u l.machine m d) (from-start w room-for) }

@@ -9,9 +9,9 @@ use borrow.Author.Tests.{eqb-true, eqb-false}
 use Rattle.rules.specs.Bits.{isOne}
 use Rattle.rules.specs.Constants.{mark}
 use Rattle.rules.specs.Word.{Run, wordIns, wordRun}
-use Rattle.rules.specs.Tables.{Counts, flag, kind_of, target_of, successOf}
+use Rattle.rules.specs.Tables.{Counts, flag, kindOf, targetOf, successOf}
 use Rattle.rules.specs.Listing.{nat, row, refusal}
-use Rattle.laws.specs.Words.{run_small}
+use Rattle.laws.specs.Words.{wordRun-small}
 use Rattle.listing.specs.Rows.{countsRow, instrRow, sectionRow}
 use Rattle.text.specs.Numbers.{nums}
 
@@ -34,26 +34,26 @@ instr_row w p q r s = rw (p, q, r, s) (ap (row 73) (simp (append_assoc, append-n
 -- ---- a section's successor says its kind and its target
 
 module _ (r : Run) (low : r.kind < 2) where
-  by_kind : (b : Bool) → isOne r.kind ≡ b → (t : Bool) → eqb r.target mark ≡ t → (r.kind ≡ kind_of (successOf r)) × (r.target ≡ target_of (successOf r))
-  unfolding successOf kind_of target_of isOne
-  by_kind true e t f = (rw (e, successOf) (eqb-true _ _ e), rw (e, successOf))
-  by_kind false e true f = (rw (e, f, successOf) (let n = eqb-false r.kind 1 e in zero_is n), rw (e, f, successOf) (eqb-true _ _ f))
+  by-kind : (b : Bool) → isOne r.kind ≡ b → (t : Bool) → eqb r.target mark ≡ t → (r.kind ≡ kindOf (successOf r)) × (r.target ≡ targetOf (successOf r))
+  unfolding successOf kindOf targetOf isOne
+  by-kind true e t f = (rw (e, successOf) (eqb-true _ _ e), rw (e, successOf))
+  by-kind false e true f = (rw (e, f, successOf) (let n = eqb-false r.kind 1 e in zero-is n), rw (e, f, successOf) (eqb-true _ _ f))
     where
-      zero_is : (r.kind ≡ 1 → ⊥) → r.kind ≡ 0
-      zero_is n = omega arith
-  by_kind false e false f = (rw (e, f, successOf) (let n = eqb-false r.kind 1 e in zero_is n), rw (e, f, successOf))
+      zero-is : (r.kind ≡ 1 → ⊥) → r.kind ≡ 0
+      zero-is n = omega arith
+  by-kind false e false f = (rw (e, f, successOf) (let n = eqb-false r.kind 1 e in zero-is n), rw (e, f, successOf))
     where
-      zero_is : (r.kind ≡ 1 → ⊥) → r.kind ≡ 0
-      zero_is n = omega arith
+      zero-is : (r.kind ≡ 1 → ⊥) → r.kind ≡ 0
+      zero-is n = omega arith
 
-  success-says : (r.kind ≡ kind_of (successOf r)) × (r.target ≡ target_of (successOf r))
-  success-says = by_kind _ refl _ refl
+  success-says : (r.kind ≡ kindOf (successOf r)) × (r.target ≡ targetOf (successOf r))
+  success-says = by-kind _ refl _ refl
 
 pub section_row : (i w : ℕ) {l : Bool} {s k t n : ℕ} → s ≡ flag l → l ≡ isOne (wordRun w).lineStart → k ≡ (wordRun w).kind → t ≡ (wordRun w).target → n ≡ (wordRun w).count →
     row 83 (nums (i ∷ s ∷ k ∷ t ∷ n ∷ [])) ≡ sectionRow i w
 unfolding sectionRow nums
 section_row i w {l} {s} {k} {t} {n} x y p q r =
-    let z = success-says (wordRun w) (run_small w).1.0 in
-    let p' : k ≡ kind_of (successOf (wordRun w)) = p ∙ z.0 in
-    let q' : t ≡ target_of (successOf (wordRun w)) = q ∙ z.1 in
+    let z = success-says (wordRun w) (wordRun-small w).1.0 in
+    let p' : k ≡ kindOf (successOf (wordRun w)) = p ∙ z.0 in
+    let q' : t ≡ targetOf (successOf (wordRun w)) = q ∙ z.1 in
     rw (x, y, p', q', r) (ap (row 83) (simp (append_assoc, append-nil)))

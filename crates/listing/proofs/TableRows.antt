@@ -26,9 +26,9 @@ module _ (i n : ℕ) (t : List ℤ) where
   numbers-none a b = let e : i ≡ n = omega arith in record { flat-is = rw (e, slice_empty) }
 
   -- a signed number goes by its bits
-  pub numbers_more : i < n → n ≤ length t → SFits w64 (get_or t i (pos 0)) → Are (row 78 (nat i ++ int (to_z w64 (of_z w64 (get_or t i (pos 0))))) ∷ rowsN (i + 1) (slice (i + 1) n t) ∷ []) (rowsN i (slice i n t))
+  pub numbers-more : i < n → n ≤ length t → SFits w64 (get_or t i (pos 0)) → Are (row 78 (nat i ++ int (to_z w64 (of_z w64 (get_or t i (pos 0))))) ∷ rowsN (i + 1) (slice (i + 1) n t) ∷ []) (rowsN i (slice i n t))
   unfolding rowsN
-  numbers_more a b f = record { flat-is = rw (to_z-of_z w64 (get_or t i (pos 0)) f, slice-cons i n t (pos 0) a b, add-one, append-nil) }
+  numbers-more a b f = record { flat-is = rw (to_z-of_z w64 (get_or t i (pos 0)) f, slice-cons i n t (pos 0) a b, add-one, append-nil) }
 
 -- ---- names
 
@@ -42,9 +42,9 @@ module _ (i n : ℕ) (t : List ℕ) where
     unfolding rowsV
     names-mark e = record { flat-is = rw (slice-cons i n t 0 a b, add-one, append-nil, rowsV, eq-eqb (get_or t i 0) mark e) }
 
-    pub names_more : (get_or t i 0 ≡ mark → ⊥) → Are (row 86 (nat i ++ nat (get_or t i 0)) ∷ rowsV (i + 1) (slice (i + 1) n t) ∷ []) (rowsV i (slice i n t))
+    pub names-more : (get_or t i 0 ≡ mark → ⊥) → Are (row 86 (nat i ++ nat (get_or t i 0)) ∷ rowsV (i + 1) (slice (i + 1) n t) ∷ []) (rowsV i (slice i n t))
     unfolding rowsV
-    names_more e = record { flat-is = rw (slice-cons i n t 0 a b, add-one, append-nil, rowsV, ne_eqb (get_or t i 0) mark e) }
+    names-more e = record { flat-is = rw (slice-cons i n t 0 a b, add-one, append-nil, rowsV, ne_eqb (get_or t i 0) mark e) }
 
 -- ---- instructions
 

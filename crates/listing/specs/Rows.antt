@@ -1,8 +1,8 @@
 -- The rows of single words.
-use Rattle.std.specs.Prelude.{List, [], ◌∷◌, ◌++◌, ℕ, ◌+◌, ◌≤◌, ◌<◌, length, get_or}
+use Rattle.std.specs.Prelude.{List, ◌++◌, ℕ, ◌+◌, ◌≤◌, ◌<◌, length, get_or}
 use Rattle.rules.specs.Bits.{isOne}
 use Rattle.rules.specs.Word.{wordIns, wordRun, wordSpan}
-use Rattle.rules.specs.Tables.{Counts, flag, kind_of, target_of, successOf}
+use Rattle.rules.specs.Tables.{Counts, flag, kindOf, targetOf, successOf}
 use Rattle.rules.specs.Listing.{nat, hexText, row}
 
 -- M of a machine's counts
@@ -21,7 +21,7 @@ instrRow w = let i = wordIns w in row 73 (nat i.op ++ nat i.fst ++ nat i.snd ++ 
 unfoldable pub sectionRow : ℕ → ℕ → List ℕ
 sectionRow i w =
     let r = wordRun w in
-    row 83 (nat i ++ nat (flag (isOne r.lineStart)) ++ nat (kind_of (successOf r)) ++ nat (target_of (successOf r)) ++ nat r.count)
+    row 83 (nat i ++ nat (flag (isOne r.lineStart)) ++ nat (kindOf (successOf r)) ++ nat (targetOf (successOf r)) ++ nat r.count)
 
 -- the first n string words lie inside the pool
 abbrev pub Inside : List ℕ → List ℕ → ℕ → Type 0

@@ -4,6 +4,7 @@ use mathlib.Core.List.{List, [], ◌∷◌}
 use Prim.Native.Nat.{ℕ, ◌≤◌, ◌<◌}
 use native.Mathlib.Omega.{arith}
 use lib.ListN.{length}
+use Rattle.rules.specs.Constants.{mostCount}
 use Rattle.rules.specs.Bits.{ok}
 use Rattle.rules.specs.Tree.{Tree}
 use Rattle.rules.specs.Instr.{Instruction}
@@ -13,7 +14,7 @@ use Rattle.rules.specs.Tables.{Counts, allCode, countsOf}
 use Rattle.rules.specs.Annotate.{annotate}
 use Rattle.rules.specs.Assemble.{sectionsOf}
 use Rattle.rules.specs.Lowered.{Options, spans, texts, assemble, lowered}
-use Rattle.rules.specs.Demand.{All, RegistersBelow}
+use Rattle.rules.specs.Preservation.{All, RegistersBelow}
 use Rattle.bounds.specs.Good.{CodeGood, GoodWhole}
 use Rattle.bounds.specs.Quiet.{shown-regs, cond-regs}
 use Rattle.bounds.specs.Room.{Room, roomOf, Ok}
@@ -21,13 +22,13 @@ use Rattle.bounds.specs.Own.{Whole, whole-grows, annotate-made}
 use Rattle.bounds.specs.LimitsTree.{limits}
 use Rattle.machines.specs.Lowered.{lower-starts}
 use Rattle.machines.specs.FinishedCode.{lower-good}
-use Rattle.bounds.specs.Stay.{numbers_stay, strings-stay}
-use Rattle.bounds.specs.Lengths.{length-spans}
+use Rattle.bounds.specs.Stay.{numbers-stay, strings-stay}
+use Rattle.laws.specs.Texts.{length-spans}
 use Rattle.bounds.specs.Estimate.{sections-length}
 use Rattle.bounds.specs.Bounds.{small}
 use Rattle.machines.specs.Targets.{Aims, lower-aims}
 use Rattle.machines.specs.Shape.{lower-later}
-use Rattle.machines.specs.Texts.{annotate-short, spans_fit, names-fit}
+use Rattle.machines.specs.Texts.{annotate-short, spans-fit, names-fit}
 use Rattle.machines.specs.Fits.{Counted, MachineFit}
 use Rattle.machines.specs.Held.{SectsFit, machine-fit}
 use Rattle.laws.specs.Sections.{replaced-length}
@@ -76,7 +77,7 @@ module _ (o : Options) (s : List ℕ) (t : Tree) (parses : parse s ≡ ok t) whe
         later = lower-later ss;
       }
 
-  module _ (few : length (allCode (assemble o t).sections) ≤ 65535) where
+  module _ (few : length (allCode (assemble o t).sections) ≤ mostCount) where
     counted : Counted (countsOf (assemble o t))
     unfolding countsOf lowered assemble
     counted =
@@ -90,7 +91,7 @@ module _ (o : Options) (s : List ℕ) (t : Tree) (parses : parse s ≡ ok t) whe
           starts = omega (arith, sections-length ss);
           sections = omega (arith, n, k.sections);
           instrs = few;
-          numbers = omega (arith, ap length (numbers_stay o t), k.numbers);
+          numbers = omega (arith, ap length (numbers-stay o t), k.numbers);
           strings = omega (arith, ap length (strings-stay o t), k.strings);
           pool = omega (arith, k.pool);
           names = omega (arith, k.names);
@@ -101,4 +102,4 @@ module _ (o : Options) (s : List ℕ) (t : Tree) (parses : parse s ≡ ok t) whe
     unfolding assemble countsOf
     assembled-fit =
         let g = (annotate t).1 in
-        machine-fit (assemble o t) counted sections-fit (spans_fit g.strings (annotate-short t (limits s t parses).short)) (names-fit (countsOf (assemble o t)) o t.names g.names (annotate-made t).went.fine.names)
+        machine-fit (assemble o t) counted sections-fit (spans-fit g.strings (annotate-short t (limits s t parses).short)) (names-fit (countsOf (assemble o t)) o t.names g.names (annotate-made t).went.fine.names)

@@ -25,11 +25,11 @@ use Rattle.words.specs.declared.instr.Replaced.TheVariants.{Stays, Goes, Turns, 
 use Rattle.tables.specs.Runs.{held}
 use Rattle.tables.proofs.Read.{whole-total}
 use Rattle.tables.proofs.Sound.{Counted, sound}
-use Rattle.tables.proofs.Change.{machine_of, change-ok}
-use Rattle.replace.specs.Pass.{numbersBy, stringsBy, number_of, stringOf, sums, AddsAll, Plain, Ready}
+use Rattle.tables.proofs.Change.{machineOf, change-ok}
+use Rattle.replace.specs.Pass.{numbersBy, stringsBy, numberOf, stringOf, sums, AddsAll, Plain, Ready}
 use Rattle.replace.proofs.Adding.{sums-nil, sums-cons}
 use Rattle.replace.proofs.Replaces.{replace-11}
-use Rattle.bounds.specs.Stay.{numbers_stay, strings-stay}
+use Rattle.bounds.specs.Stay.{numbers-stay, strings-stay}
 use Rattle.machines.specs.Fits.{MachineFit, InTables, tables-fit}
 use Rattle.bounds.specs.Parsed.{refused≢ok}
 use Rattle.machines.specs.Back.{tables-back}
@@ -43,9 +43,9 @@ use Rattle.lower.proofs.Assembled.{assembled-fit}
 begins : {A : Type 0} (ws t : List A) (n : ℕ) → length ws ≡ n → take n (over ws t) ≡ ws
 begins ws t n e = take_at ws (drop (length ws) t) n e
 
-laid_in : (m : Machine) (l l' : Tables) (u : Counts) → Laid m l l' u → InTables l' m
+laid-in : (m : Machine) (l l' : Tables) (u : Counts) → Laid m l l' u → InTables l' m
 unfolding encode
-laid_in m l l' u h =
+laid-in m l l' u h =
     record {
       sections = ap (take (length m.sections)) h.sections ∙ begins (runWords 0 m.sections) l.sections (length m.sections) (words-length 0 m.sections);
       instrs = ap (take (length (allCode m.sections))) h.instrs ∙ begins (map insWord (allCode m.sections)) l.instrs (length (allCode m.sections)) (length-map (allCode m.sections) insWord);
@@ -59,9 +59,9 @@ abbrev unless : Machine → Res Machine → Machine
 unless d (refused n) = d
 unless d (ok m) = m
 
-read_as : (l : Tables) (u : Counts) (m : Machine) → fits l u ≡ true → decode l u ≡ ok m → machine_of l u ≡ m
+read-as : (l : Tables) (u : Counts) (m : Machine) → fits l u ≡ true → decode l u ≡ ok m → machineOf l u ≡ m
 unfolding decode held
-read_as l u m f d = ap (unless m) (rw (f, decode) at d)
+read-as l u m f d = ap (unless m) (rw (f, decode) at d)
 
 -- ---- no instruction adds more than one register
 
@@ -69,12 +69,12 @@ few-sums : (f : ℕ → ℕ) → ((w : ℕ) → f w ≤ 1) → (ws : List ℕ) �
 few-sums f h [] = rw sums-nil (omega arith)
 few-sums f h (w ∷ ws) = rw sums-cons (let a = h w in let b = few-sums f h ws in omega arith)
 
-one_number : (d : Replaced) → numbersBy d ≤ 1
-one_number Stays = omega arith
-one_number Goes = omega arith
-one_number (Turns w) = omega arith
-one_number (Number z r) = omega arith
-one_number (Blank r) = omega arith
+one-number : (d : Replaced) → numbersBy d ≤ 1
+one-number Stays = omega arith
+one-number Goes = omega arith
+one-number (Turns w) = omega arith
+one-number (Number z r) = omega arith
+one-number (Blank r) = omega arith
 
 one-string : (d : Replaced) → stringsBy d ≤ 1
 one-string Stays = omega arith
@@ -83,10 +83,10 @@ one-string (Turns w) = omega arith
 one-string (Number z r) = omega arith
 one-string (Blank r) = omega arith
 
-added : (t : List ℕ) (e : ℕ) → AddsAll t e (sums number_of (take e t)) (sums stringOf (take e t))
-unfolding number_of stringOf
+added : (t : List ℕ) (e : ℕ) → AddsAll t e (sums numberOf (take e t)) (sums stringOf (take e t))
+unfolding numberOf stringOf
 added t e =
-    let a = few-sums number_of (λ w. one_number (replacedOf (ruleOf (wordIns w)) (wordIns w))) (take e t) in
+    let a = few-sums numberOf (λ w. one-number (replacedOf (ruleOf (wordIns w)) (wordIns w))) (take e t) in
     let b = few-sums stringOf (λ w. one-string (replacedOf (ruleOf (wordIns w)) (wordIns w))) (take e t) in
     let c = length-take e t in
     record { numbers = refl; strings = refl; numbers-few = omega arith; strings-few = omega arith }
@@ -103,12 +103,12 @@ module _ (o : Options) (s : List ℕ) (x : Tree) (parses : parse s ≡ ok x) (l 
   fit = assembled-fit o s x parses (let e = ap (λ (u : Counts). u.instrs) h.counts in omega arith)
 
   keeps : fits l' c ≡ true
-  keeps = subst (λ (u : Counts). fits l' u ≡ true) (sym h.counts) (tables-fit (assemble o x) fit l' (laid_in (assemble o x) l l' c h))
+  keeps = subst (λ (u : Counts). fits l' u ≡ true) (sym h.counts) (tables-fit (assemble o x) fit l' (laid-in (assemble o x) l l' c h))
 
-  pub holds-machine : machine_of l' c ≡ assemble o x
-  holds-machine = read_as l' c (assemble o x) keeps (subst (λ (u : Counts). decode l' u ≡ ok (assemble o x)) (sym h.counts) (tables-back (assemble o x) fit l' (laid_in (assemble o x) l l' c h)))
+  pub holds-machine : machineOf l' c ≡ assemble o x
+  holds-machine = read-as l' c (assemble o x) keeps (subst (λ (u : Counts). decode l' u ≡ ok (assemble o x)) (sym h.counts) (tables-back (assemble o x) fit l' (laid-in (assemble o x) l l' c h)))
 
-  pub holds-lowered : replaced (machine_of l' c) ≡ lowered o x
+  pub holds-lowered : replaced (machineOf l' c) ≡ lowered o x
   unfolding lowered
   holds-lowered = ap replaced holds-machine
 
@@ -116,22 +116,22 @@ module _ (o : Options) (s : List ℕ) (x : Tree) (parses : parse s ≡ ok x) (l 
   counted = (sound l' c keeps).counts
 
   -- no number and no string is added
-  pub same_numbers : length (replaced (machine_of l' c)).numbers ≡ c.numbers
-  same_numbers =
+  pub same-numbers : length (replaced (machineOf l' c)).numbers ≡ c.numbers
+  same-numbers =
       ap (λ (m : Machine). length m.numbers) holds-lowered
-      ∙ (ap length (numbers_stay o x) ∙ (ap (λ (m : Machine). length m.numbers) (sym holds-machine) ∙ length-take-le c.numbers l'.numbers counted.numbers))
+      ∙ (ap length (numbers-stay o x) ∙ (ap (λ (m : Machine). length m.numbers) (sym holds-machine) ∙ length-take-le c.numbers l'.numbers counted.numbers))
 
-  pub same-strings : length (replaced (machine_of l' c)).strings ≡ c.strings
+  pub same-strings : length (replaced (machineOf l' c)).strings ≡ c.strings
   same-strings =
       ap (λ (m : Machine). length m.strings) holds-lowered
       ∙ (ap length (strings-stay o x) ∙ (ap (λ (m : Machine). length m.strings) (sym holds-machine) ∙ (length-map (take c.strings l'.strings) wordSpan ∙ length-take-le c.strings l'.strings counted.strings)))
 
-  accepts : replaceIn l' (machine_of l' c) ≡ ok (replaced (machine_of l' c))
+  accepts : replaceIn l' (machineOf l' c) ≡ ok (replaced (machineOf l' c))
   unfolding replaceIn
   accepts =
       let k = counted in
-      let r = replaced (machine_of l' c) in
-      let a = fit-slots r.numbers l'.numbers (omega (arith, same_numbers, k.numbers)) (omega (arith, same_numbers, k.numbers-few)) in
+      let r = replaced (machineOf l' c) in
+      let a = fit-slots r.numbers l'.numbers (omega (arith, same-numbers, k.numbers)) (omega (arith, same-numbers, k.numbers-few)) in
       let b = fit-slots r.strings l'.strings (omega (arith, same-strings, k.strings)) (omega (arith, same-strings, k.strings-few)) in
       rw (a, b, replaceIn)
 
@@ -141,29 +141,29 @@ module _ (o : Options) (s : List ℕ) (x : Tree) (parses : parse s ≡ ok x) (l 
   abbrev slot : {A : Type 0} → ℕ → List A → Bool
   slot n t = leb n (length t) && leb n mostCount
 
-  room : (slot (c.numbers + more number_of) l'.numbers && slot (c.strings + more stringOf) l'.strings) ≡ true
+  room : (slot (c.numbers + more numberOf) l'.numbers && slot (c.strings + more stringOf) l'.strings) ≡ true
   unfolding replace
   room = by _ refl
     where
-      by : (b : Bool) → (slot (c.numbers + more number_of) l'.numbers && slot (c.strings + more stringOf) l'.strings) ≡ b → (slot (c.numbers + more number_of) l'.numbers && slot (c.strings + more stringOf) l'.strings) ≡ true
+      by : (b : Bool) → (slot (c.numbers + more numberOf) l'.numbers && slot (c.strings + more stringOf) l'.strings) ≡ b → (slot (c.numbers + more numberOf) l'.numbers && slot (c.strings + more stringOf) l'.strings) ≡ true
       by true e = e
       by false e =
           absurd (
-          refused≢ok Refusal.noRoom (countsOf (replaced (machine_of l' c)))
-          (ap (λ (r : Res Counts × Tables). r.0) (replace-11 l' c keeps (more number_of) (more stringOf) (added l'.instrs c.instrs) _ _ refl refl e ∙ sym (change-ok l' c replaceIn keeps (replaced (machine_of l' c)) accepts)))
+          refused≢ok Refusal.noRoom (countsOf (replaced (machineOf l' c)))
+          (ap (λ (r : Res Counts × Tables). r.0) (replace-11 l' c keeps (more numberOf) (more stringOf) (added l'.instrs c.instrs) _ _ refl refl e ∙ sym (change-ok l' c replaceIn keeps (replaced (machineOf l' c)) accepts)))
           )
 
   plain : Plain l'.strings c.strings
   unfolding countsOf
   plain =
-      let e : take c.strings l'.strings ≡ map spanWord (assemble o x).strings = rw h.counts (laid_in (assemble o x) l l' c h).strings in
+      let e : take c.strings l'.strings ≡ map spanWord (assemble o x).strings = rw h.counts (laid-in (assemble o x) l l' c h).strings in
       ap (map spanWord) (ap (λ (m : Machine). m.strings) holds-machine) ∙ sym e
 
   pub ready : Ready l'.sections l'.instrs l'.numbers l'.strings c.sections c.instrs c.numbers c.strings c.pool
   ready =
       let k = counted in
-      let r = both (slot (c.numbers + more number_of) l'.numbers) (slot (c.strings + more stringOf) l'.strings) room in
-      let p = both (leb (c.numbers + more number_of) (length l'.numbers)) _ r.0 in
+      let r = both (slot (c.numbers + more numberOf) l'.numbers) (slot (c.strings + more stringOf) l'.strings) room in
+      let p = both (leb (c.numbers + more numberOf) (length l'.numbers)) _ r.0 in
       let q = both (leb (c.strings + more stringOf) (length l'.strings)) _ r.1 in
       record {
         sections = k.sections;

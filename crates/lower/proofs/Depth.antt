@@ -5,11 +5,12 @@ use Prim.Native.Nat.{ℕ, zero, suc, max, ◌≤◌}
 use native.Mathlib.Omega.{arith}
 use lib.Dec.{ltb, eqb}
 use lib.ListN.{get_or}
+use Rattle.rules.specs.Refusal as Refusal
 use Rattle.rules.specs.Bits.{ok, isOne}
-use Rattle.rules.specs.Constants.{mostDepth}
+use Rattle.rules.specs.Constants.{mostDepth, headBits, nameBits, flagBits, listBits, stmtKindBits, form}
 use Rattle.rules.specs.Tree.{Tree, Expr, Block, goto, ite, assign, end}
-use Rattle.rules.specs.Parse.{Reader, At, succeed, refuse, ◌>>=◌, demand, bits, begin, many, block, operator, assignops, name_of}
-use Rattle.rules.specs.Parse.{gotoOf, iteOf, step_of, assignOf, stmtKinds, expr, stmt, names, fill, lineBlock, body, file, parse}
+use Rattle.rules.specs.Parse.{Reader, At, succeed, refuse, ◌>>=◌, demand, bits, begin, many, block, operator, assignops, nameOf}
+use Rattle.rules.specs.Parse.{gotoOf, iteOf, stepOf, assignOf, stmtKinds, expr, stmt, names, fill, lineBlock, body, file, parse}
 use Rattle.bounds.specs.Parsed.{refused≢ok, passed, parsed}
 use Rattle.bounds.specs.Limits.{succeed-is}
 use Rattle.stmts.specs.Lists.{deep}
@@ -44,46 +45,46 @@ module _ (s : List ℕ) (n d : ℕ) (r : Reader Expr) (q : Reader (Block → Blo
   ite-deep : iteOf r q s a ≡ ok x → Within (suc d) x
   unfolding iteOf deep
   ite-deep e =
-      let p₁ = passed r (λ c. bits 6 >>= λ i. block i q >>= λ t. bits 6 >>= λ j. block j q >>= λ u. succeed (ite c t u)) s a x e in
+      let p₁ = passed r (λ c. bits listBits >>= λ i. block i q >>= λ t. bits listBits >>= λ j. block j q >>= λ u. succeed (ite c t u)) s a x e in
       let c = p₁.val in
-      let p₂ = passed (bits 6) (λ i. block i q >>= λ t. bits 6 >>= λ j. block j q >>= λ u. succeed (ite c t u)) s p₁.at x p₁.follows in
-      let p₃ = passed (block p₂.val q) (λ t. bits 6 >>= λ j. block j q >>= λ u. succeed (ite c t u)) s p₂.at x p₂.follows in
+      let p₂ = passed (bits listBits) (λ i. block i q >>= λ t. bits listBits >>= λ j. block j q >>= λ u. succeed (ite c t u)) s p₁.at x p₁.follows in
+      let p₃ = passed (block p₂.val q) (λ t. bits listBits >>= λ j. block j q >>= λ u. succeed (ite c t u)) s p₂.at x p₂.follows in
       let t = p₃.val in
-      let p₄ = passed (bits 6) (λ j. block j q >>= λ u. succeed (ite c t u)) s p₃.at x p₃.follows in
+      let p₄ = passed (bits listBits) (λ j. block j q >>= λ u. succeed (ite c t u)) s p₃.at x p₃.follows in
       let p₅ = passed (block p₄.val q) (λ u. succeed (ite c t u)) s p₄.at x p₄.follows in
       let i = block-deep d p₂.val q s g p₂.at (t, p₃.at) p₃.here in
       let j = block-deep d p₄.val q s g p₄.at (p₅.val, p₅.at) p₅.here in
       subst (Within (suc d)) (succeed-is (ite c t p₅.val) s p₅.at x p₅.follows) (λ b. omega (arith, i, j))
 
-  step-deep : step_of n s a ≡ ok x → Within (suc d) x
-  unfolding step_of deep
+  step-deep : stepOf n s a ≡ ok x → Within (suc d) x
+  unfolding stepOf deep
   step-deep e =
-      let p = passed (bits 1) (λ i. name_of n >>= λ y. succeed (Block.incdec (isOne i) y)) s a x e in
-      let w = passed (name_of n) (λ y. succeed (Block.incdec (isOne p.val) y)) s p.at x p.follows in
+      let p = passed (bits flagBits) (λ i. nameOf n >>= λ y. succeed (Block.incdec (isOne i) y)) s a x e in
+      let w = passed (nameOf n) (λ y. succeed (Block.incdec (isOne p.val) y)) s p.at x p.follows in
       subst (Within (suc d)) (succeed-is (Block.incdec (isOne p.val) w.val) s w.at x w.follows) (λ b. omega arith)
 
   assign-deep : assignOf n r s a ≡ ok x → Within (suc d) x
   unfolding assignOf deep
   assign-deep e =
-      let p₁ = passed (name_of n) (λ y. operator 3 assignops >>= λ o. r >>= λ v. succeed (assign y o v)) s a x e in
+      let p₁ = passed (nameOf n) (λ y. operator 3 assignops >>= λ o. r >>= λ v. succeed (assign y o v)) s a x e in
       let p₂ = passed (operator 3 assignops) (λ o. r >>= λ v. succeed (assign p₁.val o v)) s p₁.at x p₁.follows in
       let p₃ = passed r (λ v. succeed (assign p₁.val p₂.val v)) s p₂.at x p₂.follows in
       subst (Within (suc d)) (succeed-is (assign p₁.val p₂.val p₃.val) s p₃.at x p₃.follows) (λ b. omega arith)
 
-  kind-deep : (k : ℕ) → get_or (stmtKinds n r q) k (refuse 4) s a ≡ ok x → Within (suc d) x
+  kind-deep : (k : ℕ) → get_or (stmtKinds n r q) k (refuse Refusal.unassigned) s a ≡ ok x → Within (suc d) x
   unfolding stmtKinds refuse
   kind-deep zero e = goto-deep e
   kind-deep (suc zero) e = ite-deep e
   kind-deep (suc (suc zero)) e = step-deep e
   kind-deep (suc (suc (suc zero))) e = assign-deep e
-  kind-deep (suc (suc (suc (suc k)))) e = absurd (refused≢ok 4 x e)
+  kind-deep (suc (suc (suc (suc k)))) e = absurd (refused≢ok Refusal.unassigned x e)
 
 stmt-deep : (s : List ℕ) (n d : ℕ) → Shallow d (stmt n d) s
 unfolding stmt refuse
 stmt-deep s n zero a x e = absurd (refused≢ok 7 x e)
 stmt-deep s n (suc d) a x e =
-    let p = passed begin (λ z. bits 2 >>= λ k. get_or (stmtKinds n (expr n d) (stmt n d)) k (refuse 4)) s a x e in
-    let w = passed (bits 2) (λ k. get_or (stmtKinds n (expr n d) (stmt n d)) k (refuse 4)) s p.at x p.follows in
+    let p = passed begin (λ z. bits stmtKindBits >>= λ k. get_or (stmtKinds n (expr n d) (stmt n d)) k (refuse Refusal.unassigned)) s a x e in
+    let w = passed (bits stmtKindBits) (λ k. get_or (stmtKinds n (expr n d) (stmt n d)) k (refuse Refusal.unassigned)) s p.at x p.follows in
     kind-deep s n d (expr n d) (stmt n d) (stmt-deep s n d) w.at x w.val w.follows
 
 -- ---- lines
@@ -91,7 +92,7 @@ stmt-deep s n (suc d) a x e =
 line-deep : (s : List ℕ) (n : ℕ) (a : At) (x : Block × At) → lineBlock n s a ≡ ok x → deep x.0 ≤ mostDepth
 unfolding lineBlock
 line-deep s n a x e =
-    let p = passed (bits 6) (λ c. block c (stmt n mostDepth)) s a x e in
+    let p = passed (bits listBits) (λ c. block c (stmt n mostDepth)) s a x e in
     block-deep mostDepth p.val (stmt n mostDepth) s (stmt-deep s n mostDepth) p.at x p.follows
 
 lines-deep : (s : List ℕ) (n l : ℕ) (a : At) (x : List Block × At) → many l (lineBlock n) s a ≡ ok x → deepest x.0 ≤ mostDepth
@@ -117,11 +118,11 @@ body-deep l n s a x e =
 file-deep : (s : List ℕ) (a : At) (x : Tree × At) → file s a ≡ ok x → deepest x.0.lines ≤ mostDepth
 unfolding file
 file-deep s a x e =
-    let p₁ = passed (bits 8) (λ f. demand (eqb f 1) 1 >>= λ z. bits 8 >>= λ l. demand (ltb 0 l) 2 >>= λ y. bits 8 >>= λ n. body l n) s a x e in
-    let p₂ = passed (demand (eqb p₁.val 1) 1) (λ z. bits 8 >>= λ l. demand (ltb 0 l) 2 >>= λ y. bits 8 >>= λ n. body l n) s p₁.at x p₁.follows in
-    let p₃ = passed (bits 8) (λ l. demand (ltb 0 l) 2 >>= λ y. bits 8 >>= λ n. body l n) s p₂.at x p₂.follows in
-    let p₄ = passed (demand (ltb 0 p₃.val) 2) (λ y. bits 8 >>= λ n. body p₃.val n) s p₃.at x p₃.follows in
-    let p₅ = passed (bits 8) (λ n. body p₃.val n) s p₄.at x p₄.follows in
+    let p₁ = passed (bits headBits) (λ f. demand (eqb f form) Refusal.otherForm >>= λ z. bits headBits >>= λ l. demand (ltb 0 l) Refusal.zeroLines >>= λ y. bits nameBits >>= λ n. body l n) s a x e in
+    let p₂ = passed (demand (eqb p₁.val form) Refusal.otherForm) (λ z. bits headBits >>= λ l. demand (ltb 0 l) Refusal.zeroLines >>= λ y. bits nameBits >>= λ n. body l n) s p₁.at x p₁.follows in
+    let p₃ = passed (bits headBits) (λ l. demand (ltb 0 l) Refusal.zeroLines >>= λ y. bits nameBits >>= λ n. body l n) s p₂.at x p₂.follows in
+    let p₄ = passed (demand (ltb 0 p₃.val) Refusal.zeroLines) (λ y. bits nameBits >>= λ n. body p₃.val n) s p₃.at x p₃.follows in
+    let p₅ = passed (bits nameBits) (λ n. body p₃.val n) s p₄.at x p₄.follows in
     body-deep p₃.val p₅.val s p₅.at x p₅.follows
 
 pub deep-parsed : (s : List ℕ) (t : Tree) → parse s ≡ ok t → deepest t.lines ≤ mostDepth

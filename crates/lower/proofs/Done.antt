@@ -15,15 +15,15 @@ use Rattle.rules.specs.Machine.{Machine}
 use Rattle.rules.specs.Tables.{Tables, Counts, allCode, encode, countsOf}
 use Rattle.rules.specs.Replace.{Regs, replaceSections, replaced}
 use Rattle.rules.specs.Lowered.{Options, assemble, lowered}
-use Rattle.rules.specs.Operations.{put, write, size_of, estimate, holds, build, lower}
+use Rattle.rules.specs.Operations.{put, write, sizeOf, estimate, holds, build, lower}
 use Rattle.replace.specs.Pass.{Rewrote}
 use Rattle.replace.proofs.Replaces.{replaced-counts, replaced-words}
-use Rattle.bounds.specs.Stay.{numbers_stay}
+use Rattle.bounds.specs.Stay.{numbers-stay}
 use Rattle.bounds.specs.Estimate.{code-length, replaced-len, WithinEstimate, estimated}
 use Rattle.laws.specs.Sections.{words-length, replaced-length}
 use Rattle.program.specs.Program.{Laid}
 use Rattle.lower.proofs.Words.{stays, then-zeros}
-use Rattle.lower.proofs.Before.{holds-lowered, counted, same_numbers, same-strings}
+use Rattle.lower.proofs.Before.{holds-lowered, counted, same-numbers, same-strings}
 
 -- ---- counts and lengths
 
@@ -55,17 +55,17 @@ same-sections m = replaced-length (length m.pool) (record { numbers = m.numbers;
 
 -- so the sections and numbers before it keep within the estimates
 module _ (o : Options) (x : Tree) where
-  pub sections_within : (countsOf (assemble o x)).sections ≤ (estimate (size_of x)).sections
+  pub sections-within : (countsOf (assemble o x)).sections ≤ (estimate (sizeOf x)).sections
   unfolding lowered
-  sections_within = omega (arith, same-sections (assemble o x), (estimated o x).sections)
+  sections-within = omega (arith, same-sections (assemble o x), (estimated o x).sections)
 
-  pub numbers_within : (countsOf (assemble o x)).numbers ≤ (estimate (size_of x)).numbers
+  pub numbers-within : (countsOf (assemble o x)).numbers ≤ (estimate (sizeOf x)).numbers
   unfolding countsOf
-  numbers_within = omega (arith, ap length (numbers_stay o x), (estimated o x).numbers)
+  numbers-within = omega (arith, ap length (numbers-stay o x), (estimated o x).numbers)
 
 -- ---- the tables afterwards
 
-lower-ok : (o : Options) (s : List ℕ) (x : Tree) (l : Tables) → parse s ≡ ok x → holds l (estimate (size_of x)) ≡ true → (ok (countsOf (lowered o x)), write (estimate (size_of x)) (lowered o x) l) ≡ lower o s l
+lower-ok : (o : Options) (s : List ℕ) (x : Tree) (l : Tables) → parse s ≡ ok x → holds l (estimate (sizeOf x)) ≡ true → (ok (countsOf (lowered o x)), write (estimate (sizeOf x)) (lowered o x) l) ≡ lower o s l
 unfolding lower build
 lower-ok o s x l p h = rw (p, h, lower, build)
 
@@ -88,8 +88,8 @@ module _ (o : Options) (s : List ℕ) (x : Tree) (parses : parse s ≡ ok x) (l 
   laid-long : Long (encode (assemble o x)) c
   laid-long = rw h.counts (long (assemble o x))
 
-  lowered_long : Long (encode (lowered o x)) told
-  lowered_long = rw (← lowered-counts) (long (lowered o x))
+  lowered-long : Long (encode (lowered o x)) told
+  lowered-long = rw (← lowered-counts) (long (lowered o x))
 
   fewer-instrs : b ≤ c.instrs
   unfolding lowered
@@ -97,28 +97,28 @@ module _ (o : Options) (s : List ℕ) (x : Tree) (parses : parse s ≡ ok x) (l 
 
   same-k : k ≡ c.numbers
   unfolding countsOf
-  same-k = sym (ap (λ (u : Counts). u.numbers) lowered-counts) ∙ (ap (λ (m : Machine). length m.numbers) (sym (holds-lowered o s x parses l l' c h few)) ∙ same_numbers o s x parses l l' c h few)
+  same-k = sym (ap (λ (u : Counts). u.numbers) lowered-counts) ∙ (ap (λ (m : Machine). length m.numbers) (sym (holds-lowered o s x parses l l' c h few)) ∙ same-numbers o s x parses l l' c h few)
 
   same-r : r ≡ c.strings
   unfolding countsOf
   same-r = sym (ap (λ (u : Counts). u.strings) lowered-counts) ∙ (ap (λ (m : Machine). length m.strings) (sym (holds-lowered o s x parses l l' c h few)) ∙ same-strings o s x parses l l' c h few)
 
-  module _ (u : Counts) (u-is : u ≡ estimate (size_of x)) (within : c.instrs ≤ u.instrs) where
+  module _ (u : Counts) (u-is : u ≡ estimate (sizeOf x)) (within : c.instrs ≤ u.instrs) where
     -- the lowered machine within the estimates
     kept : WithinEstimate told u
     kept = rw (← lowered-counts, u-is) (estimated o x)
 
-    pub lower_done : holds l u ≡ true → (ss' is' : List ℕ) (ns' : List ℤ) →
+    pub lower-done : holds l u ≡ true → (ss' is' : List ℕ) (ns' : List ℤ) →
         ss' ≡ take c.sections ss ++ (replicate (u.sections - c.sections) 0 ++ drop u.sections ss) →
         is' ≡ take c.instrs is ++ (replicate (u.instrs - c.instrs) 0 ++ drop u.instrs is) →
         ns' ≡ take c.numbers ns ++ (replicate (u.numbers - c.numbers) (pos 0) ++ drop u.numbers ns) →
         (ok told, record { sections = ss'; instrs = is'; numbers = ns'; strings = ts; pool = l'.pool; names = l'.names }) ≡ lower o s l
     unfolding write
-    lower_done room ss' is' ns' p q v =
+    lower-done room ss' is' ns' p q v =
         let m = encode (assemble o x) in
         let y = encode (lowered o x) in
         let a = laid-long in
-        let d = lowered_long in
+        let d = lowered-long in
         let e = kept in
         let sections : ss' ≡ put 0 u.sections y.sections l.sections =
         p ∙ then-zeros 0 c.sections y.sections m.sections l.sections l'.sections ss a.sections (omega (arith, d.sections)) h.sections (ap (λ (t : Tables). t.sections) lowered-words) u.sections e.sections

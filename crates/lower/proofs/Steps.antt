@@ -18,7 +18,7 @@ use Rattle.rules.specs.Parse.{parse}
 use Rattle.rules.specs.Word.{insWord}
 use Rattle.rules.specs.Tables.{Tables, Counts, allCode, encode, countsOf}
 use Rattle.rules.specs.Lowered.{Options, defaults, assemble}
-use Rattle.rules.specs.Operations.{size_of, estimate, holds, build, lower}
+use Rattle.rules.specs.Operations.{sizeOf, estimate, holds, build, lower}
 use Rattle.bounds.specs.Parsed.{parsed}
 use Rattle.bounds.specs.LimitsTree.{limits}
 use Rattle.bounds.specs.Estimate.{estimated}
@@ -88,14 +88,14 @@ module _ {s t ls : List ℕ} {r : SizeAnswer} (h : TreeRead s t ls r) where
 
 module _ {s t ls : List ℕ} {z : Sizes} (h : Treed s t ls z) where
   pub limited : Limited (sized z)
-  unfolding size_of
+  unfolding sizeOf
   limited =
       let k = limits s h.val h.parses in
       let n = (few-lines h.val.lines).statements in
-      rw h.size_is (record { lines = omega (arith, k.most-lines); statements = omega (arith, n, k.most-nodes); nodes = k.most-nodes })
+      rw h.size-is (record { lines = omega (arith, k.most-lines); statements = omega (arith, n, k.most-nodes); nodes = k.most-nodes })
 
   pub given : (u : Counts) → u ≡ estimate (sized z) → mostNodesOf (length s) ≤ length t → mostLines ≤ length ls → Given s t ls u
-  unfolding size_of
+  unfolding sizeOf
   given u e p q =
       let k = limits s h.val h.parses in
       record {
@@ -106,13 +106,13 @@ module _ {s t ls : List ℕ} {z : Sizes} (h : Treed s t ls z) where
         placed = h.names;
         inside = omega (arith, h.within);
         line-words = omega (arith, k.most-lines);
-        estimates = e ∙ ap estimate h.size_is;
+        estimates = e ∙ ap estimate h.size-is;
       }
 
 module _ (s t ls : List ℕ) (u : Counts) (l : Tables) (h : Roomy s t ls u l) where
-  pub tree_ready : (i : ℕ) → i ≡ u.instrs → TreeReady s t ls u.lines u.names i (length l.numbers) (length l.strings) (length l.pool) (length l.names) (length l.sections)
-  unfolding estimate size_of countsOf
-  tree_ready i i-is =
+  pub tree-ready : (i : ℕ) → i ≡ u.instrs → TreeReady s t ls u.lines u.names i (length l.numbers) (length l.strings) (length l.pool) (length l.names) (length l.sections)
+  unfolding estimate sizeOf countsOf
+  tree-ready i i-is =
       let g = h.given in
       let x = g.tree in
       let k = limits s x g.parses in
@@ -165,7 +165,7 @@ module _ (o : Options) (s t ls : List ℕ) (u : Counts) (l : Tables) (h : Roomy 
   pub assembled :
       ((x : Tree) (z : ℕ) → HoldsTree s t ls x z → Placed s x.names → length x.lines ≡ u.lines → length x.names ≡ u.names → Laid (assemble o x) part l' c) →
       length l'.instrs ≡ length (take u.instrs l.instrs) → Assembled o s u l joined c
-  unfolding estimate size_of countsOf encode
+  unfolding estimate sizeOf countsOf encode
   assembled e n =
       let g = h.given in
       let x = g.tree in
@@ -193,25 +193,25 @@ module _ (o : Options) (s t ls : List ℕ) (u : Counts) (l : Tables) (h : Roomy 
 
 module _ {o : Options} {s : List ℕ} {u : Counts} {l l' : Tables} {c : Counts} (a : Assembled o s u l l' c) where
   few : c.instrs ≤ mostCount
-  unfolding estimate size_of
+  unfolding estimate sizeOf
   few = omega (arith, a.within, ap (λ (v : Counts). v.instrs) a.estimates, (limits s a.tree a.parses).most-nodes)
 
-  pub replace_ready : Ready l'.sections l'.instrs l'.numbers l'.strings c.sections c.instrs c.numbers c.strings c.pool
-  replace_ready = Before.ready o s a.tree a.parses l l' c a.laid few
+  pub replace-ready : Ready l'.sections l'.instrs l'.numbers l'.strings c.sections c.instrs c.numbers c.strings c.pool
+  replace-ready = Before.ready o s a.tree a.parses l l' c a.laid few
 
-  pub sections_within : c.sections ≤ u.sections
-  sections_within = rw (a.laid.counts, a.estimates) (Done.sections_within o a.tree)
+  pub sections-within : c.sections ≤ u.sections
+  sections-within = rw (a.laid.counts, a.estimates) (Done.sections-within o a.tree)
 
-  pub numbers_within : c.numbers ≤ u.numbers
-  numbers_within = rw (a.laid.counts, a.estimates) (Done.numbers_within o a.tree)
+  pub numbers-within : c.numbers ≤ u.numbers
+  numbers-within = rw (a.laid.counts, a.estimates) (Done.numbers-within o a.tree)
 
-  pub lower_done : (ss is : List ℕ) (ns : List ℤ) (ts : List ℕ) (b k r : ℕ) → Rewrote l'.sections l'.instrs l'.numbers l'.strings ss is ns ts c.sections c.instrs c.numbers c.strings c.pool b k r →
+  pub lower-done : (ss is : List ℕ) (ns : List ℤ) (ts : List ℕ) (b k r : ℕ) → Rewrote l'.sections l'.instrs l'.numbers l'.strings ss is ns ts c.sections c.instrs c.numbers c.strings c.pool b k r →
       holds l u ≡ true → (ss' is' : List ℕ) (ns' : List ℤ) →
       ss' ≡ take c.sections ss ++ (replicate (u.sections - c.sections) 0 ++ drop u.sections ss) →
       is' ≡ take c.instrs is ++ (replicate (u.instrs - c.instrs) 0 ++ drop u.instrs is) →
       ns' ≡ take c.numbers ns ++ (replicate (u.numbers - c.numbers) (pos 0) ++ drop u.numbers ns) →
       (ok (record { lines = c.lines; sections = c.sections; instrs = b; numbers = k; strings = r; pool = c.pool; names = c.names; values = c.values }), record { sections = ss'; instrs = is'; numbers = ns'; strings = ts; pool = l'.pool; names = l'.names }) ≡ lower o s l
-  lower_done ss is ns ts b k r w room ss' is' ns' p q v = Done.lower_done o s a.tree a.parses l l' c a.laid few ss is ns ts b k r w u a.estimates a.within room ss' is' ns' p q v
+  lower-done ss is ns ts b k r w room ss' is' ns' p q v = Done.lower-done o s a.tree a.parses l l' c a.laid few ss is ns ts b k r w u a.estimates a.within room ss' is' ns' p q v
 
 -- ---- refusals
 
@@ -220,6 +220,6 @@ module _ (o : Options) (s : List ℕ) (l : Tables) where
   unfolding lower build
   lower_no n e = rw (e, lower, build)
 
-  pub lower_11 : (t ls : List ℕ) (u : Counts) → Given s t ls u → holds l u ≡ false → (refused Refusal.noRoom, l) ≡ lower o s l
+  pub lower-11 : (t ls : List ℕ) (u : Counts) → Given s t ls u → holds l u ≡ false → (refused Refusal.noRoom, l) ≡ lower o s l
   unfolding lower build
-  lower_11 t ls u g e = let d = rw g.estimates at e in rw (g.parses, d, lower, build)
+  lower-11 t ls u g e = let d = rw g.estimates at e in rw (g.parses, d, lower, build)

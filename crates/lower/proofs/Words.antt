@@ -21,20 +21,20 @@ module _ {A : Type 0} (z : A) (n e : ℕ) (ws t : List A) (l : length ws ≤ n) 
   abbrev front : List A
   front = ws ++ replicate (n - length ws) z
 
-  front_length : length front ≡ n
-  front_length = simp (length-append, length-replicate) (omega arith)
+  front-length : length front ≡ n
+  front-length = simp (length-append, length-replicate) (omega arith)
 
-  put_front : put z n ws t ≡ front ++ drop n t
+  put-front : put z n ws t ≡ front ++ drop n t
   unfolding put
-  put_front = let a : max n (length ws) ≡ n = max-eq_left l in rw a (sym (append_assoc ws (replicate (n - length ws) z) (drop n t)))
+  put-front = let a : max n (length ws) ≡ n = max-eq_left l in rw a (sym (append_assoc ws (replicate (n - length ws) z) (drop n t)))
 
   zeroed : take n (put z n ws t) ++ (replicate (e - n) z ++ drop e (put z n ws t)) ≡ put z e ws t
   unfolding put
   zeroed =
       let a : max e (length ws) ≡ e = max-eq_left (omega arith) in
       let b : (n - length ws) + (e - n) ≡ e - length ws = omega arith in
-      let d : drop e (front ++ drop n t) ≡ drop e t = drop-later n e (front ++ drop n t) t (drop_at front (drop n t) n front_length) m in
-      rw (put_front, take_at front (drop n t) n front_length, d, a, append_assoc ws (replicate (n - length ws) z) (replicate (e - n) z ++ drop e t))
+      let d : drop e (front ++ drop n t) ≡ drop e t = drop-later n e (front ++ drop n t) t (drop_at front (drop n t) n front-length) m in
+      rw (put-front, take_at front (drop n t) n front-length, d, a, append_assoc ws (replicate (n - length ws) z) (replicate (e - n) z ++ drop e t))
       (ap (λ (r : List A). ws ++ r) (sym (append_assoc (replicate (n - length ws) z) (replicate (e - n) z) (drop e t)) ∙ ap (λ (r : List A). r ++ drop e t) (replicate-append-replicate (n - length ws) (e - n) z ∙ ap (λ (k : ℕ). replicate k z) b)))
 
 -- n words us are laid into t, then ws are put in their place: the table afterwards, and with zeros up to e

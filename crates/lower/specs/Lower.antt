@@ -1,19 +1,19 @@
 -- What the steps of lower ask and leave.
-use Rattle.std.specs.Prelude.{◌≡◌, true, List, ℕ, ◌≤◌, ◌<◌, length}
+use Rattle.std.specs.Prelude.{◌≡◌, true, List, ℕ, ◌≤◌, length}
 use Rattle.rules.specs.Bits.{ok}
-use Rattle.rules.specs.Constants.{mostNodes}
+use Rattle.rules.specs.Constants.{mostNodes, mostLines}
 use Rattle.rules.specs.Tree.{Tree}
 use Rattle.rules.specs.Parse.{parse}
 use Rattle.rules.specs.Tables.{Tables, Counts}
 use Rattle.rules.specs.Lowered.{Options, assemble}
-use Rattle.rules.specs.Operations.{Size, size_of, estimate}
+use Rattle.rules.specs.Operations.{Size, sizeOf, estimate}
 use Rattle.rules.specs.Operations as Operations
 use Rattle.tree.specs.Files.{HoldsTree, Placed}
 use Rattle.program.specs.Program.{Laid}
 
 -- a size within the limits
 pub record Limited (z : Size) : Type 0 where
-  pub lines : z.lines < 256
+  pub lines : z.lines ≤ mostLines
   pub statements : z.statements ≤ mostNodes
   pub nodes : z.nodes ≤ mostNodes
 
@@ -26,7 +26,7 @@ pub record Given (s t ls : List ℕ) (u : Counts) : Type 0 where
   pub placed : Placed s tree.names
   pub inside : last ≤ length t
   pub line-words : length tree.lines ≤ length ls
-  pub estimates : u ≡ estimate (size_of tree)
+  pub estimates : u ≡ estimate (sizeOf tree)
 
 -- and the lent tables l have room for them
 pub record Roomy (s t ls : List ℕ) (u : Counts) (l : Tables) : Type 0 where
@@ -37,6 +37,6 @@ pub record Roomy (s t ls : List ℕ) (u : Counts) (l : Tables) : Type 0 where
 pub record Assembled (o : Options) (s : List ℕ) (u : Counts) (l l' : Tables) (c : Counts) : Type 0 where
   pub tree : Tree
   pub parses : parse s ≡ ok tree
-  pub estimates : u ≡ estimate (size_of tree)
+  pub estimates : u ≡ estimate (sizeOf tree)
   pub laid : Laid (assemble o tree) l l' c
   pub within : c.instrs ≤ u.instrs

@@ -7,12 +7,12 @@ use Rattle.std.proofs.Math.ListN.{length}
 use Rattle.rules.specs.Instr.{Instruction, isJump}
 use Rattle.rules.specs.Machine.{SectionCode, absent, isFixed}
 use Rattle.rules.specs.Script.{Stmts, nil, plain, goto, ite, Script}
-use Rattle.rules.specs.Assemble.{nextLine, orOne, sectionsMade, ownCode, entry, link, cond_code, inner, orEmpty, stmtSections, head_of, tailOf, lineSections, heads, tails, sectionsOf}
+use Rattle.rules.specs.Assemble.{nextLine, orOne, sectionsMade, ownCode, entry, link, condCode, inner, orEmpty, stmtSections, headOf, tailOf, lineSections, heads, tails, sectionsOf}
 use Rattle.rules.specs.Tables.{allb}
 use Rattle.rules.specs.Operations.{fixedHere, jumpFixed, jumpsFixed}
-use Rattle.rules.specs.Demand.{All}
+use Rattle.rules.specs.Preservation.{All}
 use Rattle.bounds.specs.Lengths.{length-low, length-orEmpty, nextLine-lt}
-use Rattle.machines.specs.Lowered.{Stands, fits-cast, fits-left, fits-right, base, line-fits, at_head, fits-tail, lower-fixed}
+use Rattle.machines.specs.Lowered.{Stands, fits-cast, fits-left, fits-right, base, line-fits, at-head, fits-tail, lower-fixed}
 use Rattle.joins.specs.Along.{Fixed}
 use Rattle.laws.specs.Lists.{all-append, all-true, all-of}
 
@@ -35,12 +35,12 @@ abbrev pub JumpsFixed : List SectionCode → SectionCode → Type 0
 JumpsFixed m s = All (JumpFixed m) s.instrs
 
 module _ (m : List SectionCode) (e : ℕ) (he : FixedAt m e) where
-  own_fixed : (o : List Instruction) → All (JumpFixed m) (ownCode e o)
-  own_fixed [] = tt
-  own_fixed (i ∷ o) = (λ q. subst (λ (b : Bool). FixedAt m (cond b e i.fst)) (sym q) he, own_fixed o)
+  own-fixed : (o : List Instruction) → All (JumpFixed m) (ownCode e o)
+  own-fixed [] = tt
+  own-fixed (i ∷ o) = (λ q. subst (λ (b : Bool). FixedAt m (cond b e i.fst)) (sym q) he, own-fixed o)
 
   -- The first section of a linked list that is not empty is fixed.
-  cond-fixed : (t : Stmts) (c n k : ℕ) → Stands m n n (orEmpty t k (stmtSections true e n k t)) → All (JumpFixed m) (cond_code t c n)
+  cond-fixed : (t : Stmts) (c n k : ℕ) → Stands m n n (orEmpty t k (stmtSections true e n k t)) → All (JumpFixed m) (condCode t c n)
   cond-fixed nil c n k f = tt
   cond-fixed (plain o s) c n k f = (λ q. ap isFixed f.0.1, tt)
   cond-fixed (goto o r s) c n k f = (λ q. ap isFixed f.0.1, tt)
@@ -71,19 +71,19 @@ module _ (m : List SectionCode) (e : ℕ) (he : FixedAt m e) where
       let fBC : Stands m nf nf (B ++ C) = fits-cast m (suc n + length A) nf (B ++ C) (omega arith) (fits-right m (suc n) A (B ++ C) f.1) in
       let fB : Stands m nf nf B = fits-left m nf B C fBC in
       let fC : Stands m nj nj C = fits-cast m (nf + length B) nj C (omega arith) (fits-right m nf B C fBC) in
-      (all-append (JumpFixed m) (ownCode e o) (cond_code t c (suc n)) (own_fixed o) (cond-fixed t c (suc n) nj fA), all-append J A (B ++ C) (part-jumps t ht (suc n) nj fA) (all-append J B C (part-jumps u hu nf nj fB) (tt, hs b (suc nj) (suc nj) k fC.1)))
+      (all-append (JumpFixed m) (ownCode e o) (condCode t c (suc n)) (own-fixed o) (cond-fixed t c (suc n) nj fA), all-append J A (B ++ C) (part-jumps t ht (suc n) nj fA) (all-append J B C (part-jumps u hu nf nj fB) (tt, hs b (suc nj) (suc nj) k fC.1)))
 
   low-jumps : (s : Stmts) → LowJumps s
   low-jumps nil = λ b p n k f. tt
-  low-jumps (plain o s) = λ b p n k f. (own_fixed o, low-jumps s b (suc n) (suc n) k f.1)
-  low-jumps (goto o r s) = λ b p n k f. (own_fixed o, low-jumps s false (suc n) (suc n) k f.1)
+  low-jumps (plain o s) = λ b p n k f. (own-fixed o, low-jumps s b (suc n) (suc n) k f.1)
+  low-jumps (goto o r s) = λ b p n k f. (own-fixed o, low-jumps s false (suc n) (suc n) k f.1)
   low-jumps (ite o c t u s) = ite-jumps o c t u s (low-jumps t) (low-jumps u) (low-jumps s)
 
 module _ (m : List SectionCode) (L : ℕ) where
   abbrev Line : ℕ → ℕ → Stmts → Type 0
   Line i n s = All (JumpsFixed m) (lineSections L i n s)
 
-  head-jumps : (e : ℕ) (l : List SectionCode) → All (JumpsFixed m) l → JumpsFixed m (head_of e l)
+  head-jumps : (e : ℕ) (l : List SectionCode) → All (JumpsFixed m) l → JumpsFixed m (headOf e l)
   head-jumps e [] h = tt
   head-jumps e (s ∷ l) h = h.0
 
@@ -114,7 +114,7 @@ module _ (t : Script) (pos : 0 < length t) where
       let m = sectionsOf t in
       let e = nextLine L u in
       let n = base L t u in
-      low-jumps m e (lower-fixed t pos e (nextLine-lt L u h)) (get_or t u nil) true u n e (line-fits m L (lineSections L u n (get_or t u nil)) e u n (at_head t pos u h) (fits-tail t pos u h))
+      low-jumps m e (lower-fixed t pos e (nextLine-lt L u h)) (get_or t u nil) true u n e (line-fits m L (lineSections L u n (get_or t u nil)) e u n (at-head t pos u h) (fits-tail t pos u h))
 
   lower-jumps : All (JumpsFixed (sectionsOf t)) (sectionsOf t)
   unfolding sectionsOf

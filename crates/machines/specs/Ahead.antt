@@ -5,7 +5,7 @@ use Rattle.std.proofs.Math.Option.{Option, none, some}
 use Rattle.std.proofs.Math.ListN.{get_elem?}
 use Rattle.rules.specs.Machine.{SectionOrLine, unfixed, section, line, SectionCode, absent, isFixed}
 use Rattle.rules.specs.Script.{Stmts, nil, plain, goto, ite, Script}
-use Rattle.rules.specs.Assemble.{nextLine, orOne, sectionsMade, entry, link, inner, orEmpty, stmtSections, head_of, tailOf, lineSections, heads, tails, sectionsOf}
+use Rattle.rules.specs.Assemble.{nextLine, orOne, sectionsMade, entry, link, inner, orEmpty, stmtSections, headOf, tailOf, lineSections, heads, tails, sectionsOf}
 use Rattle.rules.specs.Clean.{renNext, ren, keep, rank, cleanSections}
 use Rattle.rules.specs.Operations.{nextAhead, allAhead}
 use Rattle.bounds.specs.Lengths.{length-low, length-orEmpty, nextLine-lt, heads-length, length-tailOf}
@@ -83,15 +83,15 @@ module _ (L : ℕ) where
       let hB : AllAt P nf (B ++ C) = at-append P nf B C (empty-ahead f nf nj (stmtSections true e nf nj f) (omega arith) (low-ahead true e nf nj f (inr (omega arith)))) (at-cast P nj (nf + length B) C (omega arith) hC) in
       (inr (omega arith), at-append P (suc n) A (B ++ C) (empty-ahead t (suc n) nj (stmtSections true e (suc n) nj t) (omega arith) (low-ahead true e (suc n) nj t (inr (omega arith)))) (at-cast P nf (suc n + length A) (B ++ C) (omega arith) hB))
 
-  ahead_lower : (p p' : ℕ) (x : SectionOrLine) → p' ≤ p → Ahead L p x → Ahead L p' x
-  ahead_lower p p' unfixed h a = tt
-  ahead_lower p p' (section u) h (inl a) = inl a
-  ahead_lower p p' (section u) h (inr a) = inr (omega arith)
-  ahead_lower p p' (line r) h a = tt
+  ahead-lower : (p p' : ℕ) (x : SectionOrLine) → p' ≤ p → Ahead L p x → Ahead L p' x
+  ahead-lower p p' unfixed h a = tt
+  ahead-lower p p' (section u) h (inl a) = inl a
+  ahead-lower p p' (section u) h (inr a) = inr (omega arith)
+  ahead-lower p p' (line r) h a = tt
 
-  head-ahead : (e i n : ℕ) (l : List SectionCode) → e < L → i ≤ n → AllAt P n l → P i (head_of e l)
+  head-ahead : (e i n : ℕ) (l : List SectionCode) → e < L → i ≤ n → AllAt P n l → P i (headOf e l)
   head-ahead e i n [] he h a = inl he
-  head-ahead e i n (s ∷ l) he h a = ahead_lower n i s.success h a.0
+  head-ahead e i n (s ∷ l) he h a = ahead-lower n i s.success h a.0
 
   tail-ahead : (n : ℕ) (l : List SectionCode) → AllAt P n l → AllAt P n (tailOf l)
   tail-ahead n [] a = tt
@@ -133,18 +133,18 @@ kept-grow (s ∷ m) (suc v) (suc u) h = go (isFixed s.success) (kept-grow m v u 
 rank-grow : (m : List SectionCode) (v u : ℕ) → v ≤ u → rank m v ≤ rank m u
 rank-grow m v u h = pred-le-pred (kept-grow m (suc v) (suc u) (omega arith))
 
-kept_at : (a : List SectionCode) (s : SectionCode) (b : List SectionCode) → isFixed s.success ≡ true → length (keep (take (suc (length a)) (a ++ (s ∷ b)))) ≡ suc (length (keep a))
-kept_at [] s b h = ap (λ (x : Bool). length (cond x (s ∷ []) [])) h
-kept_at (x ∷ a) s b h = go (isFixed x.success) (kept_at a s b h)
+kept-at : (a : List SectionCode) (s : SectionCode) (b : List SectionCode) → isFixed s.success ≡ true → length (keep (take (suc (length a)) (a ++ (s ∷ b)))) ≡ suc (length (keep a))
+kept-at [] s b h = ap (λ (x : Bool). length (cond x (s ∷ []) [])) h
+kept-at (x ∷ a) s b h = go (isFixed x.success) (kept-at a s b h)
   where
     go : (c : Bool) → length (keep (take (suc (length a)) (a ++ (s ∷ b)))) ≡ suc (length (keep a))
         → length (cond c (x ∷ keep (take (suc (length a)) (a ++ (s ∷ b)))) (keep (take (suc (length a)) (a ++ (s ∷ b))))) ≡ suc (length (cond c (x ∷ keep a) (keep a)))
     go true e = ap suc e
     go false e = e
 
-keep_snoc : (a : List SectionCode) (s : SectionCode) → length (keep (a ++ (s ∷ []))) ≡ length (keep a) + length (cond (isFixed s.success) (s ∷ []) [])
-keep_snoc [] s = omega arith
-keep_snoc (x ∷ a) s = go (isFixed x.success) (keep_snoc a s)
+keep-snoc : (a : List SectionCode) (s : SectionCode) → length (keep (a ++ (s ∷ []))) ≡ length (keep a) + length (cond (isFixed s.success) (s ∷ []) [])
+keep-snoc [] s = omega arith
+keep-snoc (x ∷ a) s = go (isFixed x.success) (keep-snoc a s)
   where
     go : (c : Bool) → length (keep (a ++ (s ∷ []))) ≡ length (keep a) + length (cond (isFixed s.success) (s ∷ []) [])
         → length (cond c (x ∷ keep (a ++ (s ∷ []))) (keep (a ++ (s ∷ [])))) ≡ length (cond c (x ∷ keep a) (keep a)) + length (cond (isFixed s.success) (s ∷ []) [])
@@ -176,11 +176,11 @@ module _ (L : ℕ) (m : List SectionCode) (stmtSections : (t : ℕ) → t < L �
       go : (c : Bool) → isFixed s.success ≡ c → AllAt Q (length (keep (a ++ (s ∷ [])))) (map (ren (rank m)) (keep b))
           → AllAt Q (length (keep a)) (map (ren (rank m)) (cond c (s ∷ keep b) (keep b)))
       go true q ih =
-          let r : rank m (length a) ≡ length (keep a) = ap (λ (l : List SectionCode). pred (length (keep (take (suc (length a)) l)))) (sym e) ∙ ap pred (kept_at a s b q) in
-          let k : length (keep (a ++ (s ∷ []))) ≡ suc (length (keep a)) = keep_snoc a s ∙ (ap (λ (x : Bool). length (keep a) + length (cond x (s ∷ []) [])) q ∙ omega arith) in
+          let r : rank m (length a) ≡ length (keep a) = ap (λ (l : List SectionCode). pred (length (keep (take (suc (length a)) l)))) (sym e) ∙ ap pred (kept-at a s b q) in
+          let k : length (keep (a ++ (s ∷ []))) ≡ suc (length (keep a)) = keep-snoc a s ∙ (ap (λ (x : Bool). length (keep a) + length (cond x (s ∷ []) [])) q ∙ omega arith) in
           (subst (λ (p : ℕ). Kept (cleanSections m) p (renNext (rank m) s.success)) r (next-kept (length a) s.success h.0), subst (λ (n : ℕ). AllAt Q n (map (ren (rank m)) (keep b))) k ih)
       go false q ih =
-          let k : length (keep (a ++ (s ∷ []))) ≡ length (keep a) = keep_snoc a s ∙ (ap (λ (x : Bool). length (keep a) + length (cond x (s ∷ []) [])) q ∙ omega arith) in
+          let k : length (keep (a ++ (s ∷ []))) ≡ length (keep a) = keep-snoc a s ∙ (ap (λ (x : Bool). length (keep a) + length (cond x (s ∷ []) [])) q ∙ omega arith) in
           subst (λ (n : ℕ). AllAt Q n (map (ren (rank m)) (keep b))) k ih
 
 -- ---- as a test

@@ -1,4 +1,5 @@
 -- A machine's words read back as the machine, and so do the tables that a call has written it to.
+use Rattle.rules.specs.Constants.{mostCount}
 use Rattle.std.specs.Prelude.{◌≡◌, refl, Bool, true, false, List, [], ◌∷◌, ◌++◌, map, ℕ, suc, ◌+◌, ◌-◌, max, ◌≤◌, ℤ, pos, length, take, drop, replicate}
 use Rattle.std.proofs.Common.{sym, ap, ap₂, ◌∙◌, arith, take_at, drop_at}
 use Rattle.std.proofs.lemmas.List.{map-append, length-map}
@@ -13,8 +14,8 @@ use Rattle.laws.specs.Words as Words
 use Rattle.rules.specs.Word.{insWord, wordIns, Run, Span, spanWord, wordSpan}
 use Rattle.rules.specs.Machine.{SectionOrLine, SectionCode, Machine}
 use Rattle.rules.specs.Tables.{Tables, Counts, readSections, decode, successOf, flag, sectionRun, runWords, allCode, encode, countsOf}
-use Rattle.rules.specs.Operations.{size_of, estimate, holds, put, write, build}
-use Rattle.rules.specs.Demand.{All}
+use Rattle.rules.specs.Operations.{sizeOf, estimate, holds, put, write, build}
+use Rattle.rules.specs.Preservation.{All}
 use Rattle.bounds.specs.Estimate.{codeLen, code-length}
 use Rattle.bounds.specs.Parsed.{refused≢ok}
 use Rattle.machines.specs.Fits.{Held, Counted, SectFit, SpanFit, AllAt, MachineFit, InTables, tables-fit, ins-small, next-small}
@@ -33,7 +34,7 @@ sectOf a c x = record { lineStart = a; instrs = c; success = x }
 readOne : Run → List ℕ → SectionCode
 readOne r is = record { lineStart = isOne r.lineStart; instrs = map wordIns (take r.count is); success = successOf r }
 
-sections-back : (u : Counts) → Counted u → (i k : ℕ) (ss : List SectionCode) → AllAt (SectFit u) i ss → All (λ (x : Instruction). Held u (kinds x.op) x) (allCode ss) → k + codeLen ss ≤ 65535
+sections-back : (u : Counts) → Counted u → (i k : ℕ) (ss : List SectionCode) → AllAt (SectFit u) i ss → All (λ (x : Instruction). Held u (kinds x.op) x) (allCode ss) → k + codeLen ss ≤ mostCount
     → readSections (runWords k ss) (map insWord (allCode ss)) ≡ ss
 unfolding readSections runWords allCode readOne
 sections-back u c i k [] f h e = refl
@@ -59,17 +60,17 @@ sections-back u c i k (s ∷ ss) f h e =
         parts : {a : Bool} {d : List Instruction} {x : SectionOrLine} → a ≡ s.lineStart → d ≡ s.instrs → x ≡ s.success → sectOf a d x ≡ sectOf s.lineStart s.instrs s.success
         parts p q r = cc
 
-spans-back : (P : ℕ) → P ≤ 65535 → (ts : List Span) → All (SpanFit P) ts → map wordSpan (map spanWord ts) ≡ ts
+spans-back : (P : ℕ) → P ≤ mostCount → (ts : List Span) → All (SpanFit P) ts → map wordSpan (map spanWord ts) ≡ ts
 spans-back P p [] h = refl
 spans-back P p (t ∷ ts) h = ap₂ (λ (x : Span) (y : List Span). x ∷ y) (one t h.0) (spans-back P p ts h.1)
   where
     one : (t : Span) → SpanFit P t → wordSpan (spanWord t) ≡ t
-    one t f = Words.span-back t (omega (arith, f.inside), (f.short, tt))
+    one t f = Words.span-back t (omega (arith, f.inside), (omega (arith, f.short), tt))
 
 -- ---- the machine
 
-abbrev machine_of : ℕ → List SectionCode → List ℤ → List Span → List ℕ → ℕ → List ℕ → Machine
-machine_of l ss ns ts p v ws = record { lines = l; sections = ss; numbers = ns; strings = ts; pool = p; values = v; names = ws }
+abbrev machineOf : ℕ → List SectionCode → List ℤ → List Span → List ℕ → ℕ → List ℕ → Machine
+machineOf l ss ns ts p v ws = record { lines = l; sections = ss; numbers = ns; strings = ts; pool = p; values = v; names = ws }
 
 -- Tables that begin with m's words read as m.
 pub tables-back : (m : Machine) → MachineFit m → (l : Tables) → InTables l m → decode l (countsOf m) ≡ ok m
@@ -86,7 +87,7 @@ tables-back m f l h =
     elim z as (λ y. Res Machine) [
       | false ↦ refused Refusal.breaksRules
       | true ↦ ok (
-          machine_of
+          machineOf
           m.lines
           (readSections (take (length ss) l.sections) (take (length (allCode ss)) l.instrs))
           (take (length m.numbers) l.numbers)
@@ -101,7 +102,7 @@ tables-back m f l h =
     ∙ ap ok (whole a h.numbers b h.pool h.names)
   where
     whole : {ss ss' : List SectionCode} {ns ns' : List ℤ} {ts ts' : List Span} {p p' ws ws' : List ℕ} → ss ≡ ss' → ns ≡ ns' → ts ≡ ts' → p ≡ p' → ws ≡ ws'
-        → machine_of m.lines ss ns ts p m.values ws ≡ machine_of m.lines ss' ns' ts' p' m.values ws'
+        → machineOf m.lines ss ns ts p m.values ws ≡ machineOf m.lines ss' ns' ts' p' m.values ws'
     whole e₁ e₂ e₃ e₄ e₅ = cc
 
 -- ---- written by lower and finish
@@ -141,10 +142,10 @@ built f fit s l u e = outer (parse s) refl e refl
     Ans = Res Counts × Tables
 
     made : Tree → Bool → Ans
-    made x b = elim b [ false ↦ (refused Refusal.noRoom, l) | true ↦ (let m = f x in (ok (countsOf m), write (estimate (size_of x)) m l)) ]
+    made x b = elim b [ false ↦ (refused Refusal.noRoom, l) | true ↦ (let m = f x in (ok (countsOf m), write (estimate (sizeOf x)) m l)) ]
 
     answer : Res Tree → Ans
-    answer r = elim r [ refused n ↦ (refused n, l) | ok x ↦ made x (holds l (estimate (size_of x))) ]
+    answer r = elim r [ refused n ↦ (refused n, l) | ok x ↦ made x (holds l (estimate (sizeOf x))) ]
 
     inner : (x : Tree) → parse s ≡ ok x → (b : Bool) → (made x b).0 ≡ ok u → (build f s l).1 ≡ (made x b).1 → Built f s l u
     inner x p false q r = absurd (refused≢ok Refusal.noRoom u q)
@@ -155,9 +156,9 @@ built f fit s l u e = outer (parse s) refl e refl
           tree = x;
           parsed = p;
           counts = sym c;
-          machine = ap (λ (k : Tables). decode k u) r ∙ (ap (decode (write (estimate (size_of x)) m l)) (sym c) ∙ tables-back m (fit s x p) (write (estimate (size_of x)) m l) (written (estimate (size_of x)) m l));
+          machine = ap (λ (k : Tables). decode k u) r ∙ (ap (decode (write (estimate (sizeOf x)) m l)) (sym c) ∙ tables-back m (fit s x p) (write (estimate (sizeOf x)) m l) (written (estimate (sizeOf x)) m l));
         }
 
     outer : (r : Res Tree) → parse s ≡ r → (answer r).0 ≡ ok u → (build f s l).1 ≡ (answer r).1 → Built f s l u
     outer (refused n) p q w = absurd (refused≢ok n u q)
-    outer (ok x) p q w = inner x p (holds l (estimate (size_of x))) q w
+    outer (ok x) p q w = inner x p (holds l (estimate (sizeOf x))) q w

@@ -7,8 +7,8 @@ use Rattle.rules.specs.Machine.{SectionOrLine, unfixed, section, line, SectionCo
 use Rattle.rules.specs.Clean.{renIns, renNext, ren, keep, rank, cleanSections}
 use Rattle.rules.specs.Combine.{pair, without, joined, combineAt, combineFuel, combineSections}
 use Rattle.rules.specs.Script.{Stmts, nil, plain, goto, ite, Script}
-use Rattle.rules.specs.Assemble.{condJump, nextLine, orOne, sectionsMade, ownCode, entry, link, cond_code, inner, orEmpty, stmtSections, head_of, tailOf, lineSections, heads, tails, sectionsOf}
-use Rattle.rules.specs.Demand.{All}
+use Rattle.rules.specs.Assemble.{condJump, nextLine, orOne, sectionsMade, ownCode, entry, link, condCode, inner, orEmpty, stmtSections, headOf, tailOf, lineSections, heads, tails, sectionsOf}
+use Rattle.rules.specs.Preservation.{All}
 use Rattle.bounds.specs.Good.{GoodWhole, CodeGood, NextGood, SectGood}
 use Rattle.bounds.specs.Jumps.{shown-aimed}
 use Rattle.laws.specs.Lists.{all-append, all-set}
@@ -22,10 +22,10 @@ module _ {A : Type 0} (P : A → Type 0) where
   everywhere h [] = tt
   everywhere h (a ∷ l) = (h a, everywhere h l)
 
-  all_without : (l : List A) (n : ℕ) → All P l → All P (without l n)
-  all_without [] n q = q
-  all_without (x ∷ l) zero q = q.1
-  all_without (x ∷ l) (suc n) q = (q.0, all_without l n q.1)
+  all-without : (l : List A) (n : ℕ) → All P l → All P (without l n)
+  all-without [] n q = q
+  all-without (x ∷ l) zero q = q.1
+  all-without (x ∷ l) (suc n) q = (q.0, all-without l n q.1)
 
 module _ (P : Instruction → Type 0) (G : ℕ → Type 0) where
   abbrev S : SectionCode → Type 0
@@ -49,9 +49,9 @@ module _ (P : Instruction → Type 0) (G : ℕ → Type 0) where
   all-ren f [] p = p
   all-ren f (s ∷ m) p = ((code-ren f s.instrs p.0.0, next-ren f s.success p.0.1), all-ren f m p.1)
 
-  all_keep : (m : List SectionCode) → All S m → All S (keep m)
-  all_keep [] p = p
-  all_keep (s ∷ m) p = go (isFixed s.success) (all_keep m p.1)
+  all-keep : (m : List SectionCode) → All S m → All S (keep m)
+  all-keep [] p = p
+  all-keep (s ∷ m) p = go (isFixed s.success) (all-keep m p.1)
     where
       go : (b : Bool) → All S (keep m) → All S (cond b (s ∷ keep m) (keep m))
       go true q = (p.0, q)
@@ -63,7 +63,7 @@ module _ (P : Instruction → Type 0) (G : ℕ → Type 0) where
       let a = getD-good m p i in
       let b = getD-good m p j in
       let J = joined (get_or m i absent) (get_or m j absent) in
-      all-ren (fall j) (without (set m i J) j) (all_without S (set m i J) j (all-set S m i J (all-append (λ i. P (shown i)) (get_or m i absent).instrs (get_or m j absent).instrs a.0 b.0, b.1) p))
+      all-ren (fall j) (without (set m i J) j) (all-without S (set m i J) j (all-set S m i J (all-append (λ i. P (shown i)) (get_or m i absent).instrs (get_or m j absent).instrs a.0 b.0, b.1) p))
 
   fuel-good : (k : ℕ) (m : List SectionCode) → All S m → All S (combineFuel k m)
   fuel-good zero m p = p
@@ -81,7 +81,7 @@ module _ (P : Instruction → Type 0) (G : ℕ → Type 0) where
   link-good true t = tt
   link-good false t = tt
 
-  cond-good : (t : Stmts) (c n : ℕ) → P (condJump 0 c) → CodeGood P (cond_code t c n)
+  cond-good : (t : Stmts) (c n : ℕ) → P (condJump 0 c) → CodeGood P (condCode t c n)
   cond-good nil c n p = tt
   cond-good (plain o s) c n p = (p, tt)
   cond-good (goto o r s) c n p = (p, tt)
@@ -103,7 +103,7 @@ module _ (P : Instruction → Type 0) (G : ℕ → Type 0) where
       let lt = stmtSections true e (suc n) nj t in
       let lf = stmtSections true e nf nj f in
       let j = inner [] (link b (entry s (suc nj) k)) ∷ stmtSections b e (suc nj) k s in (
-        (all-append (λ i. P (shown i)) (ownCode e o) (cond_code t c (suc n)) (own-good e o g.0) (cond-good t c (suc n) g.1), tt),
+        (all-append (λ i. P (shown i)) (ownCode e o) (condCode t c (suc n)) (own-good e o g.0) (cond-good t c (suc n) g.1), tt),
         all-append S
             (orEmpty t nj lt)
             (orEmpty f nj lf ++ j)
@@ -117,7 +117,7 @@ module _ (P : Instruction → Type 0) (G : ℕ → Type 0) where
             ),
       )
 
-  head-good : (e : ℕ) (l : List SectionCode) → All S l → S (head_of e l)
+  head-good : (e : ℕ) (l : List SectionCode) → All S l → S (headOf e l)
   head-good e [] p = (tt, tt)
   head-good e (s ∷ l) p = p.0
 
@@ -145,7 +145,7 @@ module _ (P : Instruction → Type 0) (G : ℕ → Type 0) where
 
   pub clean-good : (m : List SectionCode) → All S m → All S (cleanSections m)
   unfolding cleanSections
-  clean-good m p = all-ren (rank m) (keep m) (all_keep m p)
+  clean-good m p = all-ren (rank m) (keep m) (all-keep m p)
 
   pub combined-good : (m : List SectionCode) → All S m → All S (combineSections m)
   unfolding combineSections

@@ -13,10 +13,10 @@ use Rattle.laws.specs.Table.{opcode-bits}
 use Rattle.laws.specs.Words.{InsSmall, ins-back, ins-zeros}
 use Rattle.laws.specs.SectionWord.{NextSmall, flag-back, next-back, fields-back, zeros-back}
 use Rattle.rules.specs.Word.{unpack, insWord, insSpare, Run, runWord, wordRun, runSpare, Span, spanWord, wordSpan, spanSpare}
-use Rattle.rules.specs.Constants.{stringLayout}
+use Rattle.rules.specs.Constants.{stringLayout, mostCount, mostLines, mostChars}
 use Rattle.rules.specs.Machine.{SectionOrLine, unfixed, section, line, SectionCode, isFixed, Machine}
 use Rattle.rules.specs.Tables.{Tables, Counts, allb, fieldFits, insFits, successOf, successFits, startFits, runsFit, spanFits, nameFits, countFits, countsFit, wordsFit, fits, flag, sectionRun, runWords, allCode, encode, countsOf}
-use Rattle.rules.specs.Demand.{All, FieldBelow}
+use Rattle.rules.specs.Preservation.{All, FieldBelow}
 use Rattle.bounds.specs.Estimate.{codeLen, code-length}
 use Rattle.laws.specs.Lists.{all-true}
 use Rattle.laws.specs.Sections.{words-length}
@@ -39,24 +39,24 @@ Holds u k n = FieldBelow u k n × (isPlace k ≡ true → n < u.sections)
 
 -- The counts that fit into fields.
 pub record Counted (u : Counts) : Type 0 where
-  pub lines : u.lines ≤ 255
+  pub lines : u.lines ≤ mostLines
   pub some-lines : 0 < u.lines
   pub starts : u.lines ≤ u.sections
-  pub sections : u.sections ≤ 65535
-  pub instrs : u.instrs ≤ 65535
-  pub numbers : u.numbers ≤ 65535
-  pub strings : u.strings ≤ 65535
-  pub pool : u.pool ≤ 65535
-  pub names : u.names ≤ 65535
-  pub values : u.values ≤ 65535
+  pub sections : u.sections ≤ mostCount
+  pub instrs : u.instrs ≤ mostCount
+  pub numbers : u.numbers ≤ mostCount
+  pub strings : u.strings ≤ mostCount
+  pub pool : u.pool ≤ mostCount
+  pub names : u.names ≤ mostCount
+  pub values : u.values ≤ mostCount
 
-field_fits : (u : Counts) (k : Kind) (n : ℕ) → Holds u k n → fieldFits u k n ≡ true
+field-fits : (u : Counts) (k : Kind) (n : ℕ) → Holds u k n → fieldFits u k n ≡ true
 unfolding fieldFits
-field_fits u unused n h = eq-eqb n 0 h.0
-field_fits u num n h = lt-ltb n u.numbers h.0
-field_fits u str n h = lt-ltb n u.strings h.0
-field_fits u val n h = lt-ltb n u.values h.0
-field_fits u place n h = lt-ltb n u.sections (h.1 refl)
+field-fits u unused n h = eq-eqb n 0 h.0
+field-fits u num n h = lt-ltb n u.numbers h.0
+field-fits u str n h = lt-ltb n u.strings h.0
+field-fits u val n h = lt-ltb n u.values h.0
+field-fits u place n h = lt-ltb n u.sections (h.1 refl)
 
 pub field-small : (u : Counts) → Counted u → (k : Kind) (n : ℕ) → Holds u k n → n < 65536
 field-small u c unused n h = omega (arith, h.0)
@@ -66,9 +66,9 @@ field-small u c val n h = omega (arith, h.0, c.values)
 field-small u c place n h = omega (arith, h.1 refl, c.sections)
 
 -- An opcode's kinds stand in its row.
-pub row_of : (o : ℕ) (k : Kind × Kind × Kind) → kinds o ≡ some k → (r : Row) × (get_elem? table o ≡ some r) × (r.kinds ≡ k)
+pub row-of : (o : ℕ) (k : Kind × Kind × Kind) → kinds o ≡ some k → (r : Row) × (get_elem? table o ≡ some r) × (r.kinds ≡ k)
 unfolding kinds table
-row_of o k e = go (get_elem? table o) refl e
+row-of o k e = go (get_elem? table o) refl e
   where
     go : (x : Option Row) → get_elem? table o ≡ x → ◌≡◌ {A = Option (Kind × Kind × Kind)} (elim x [ none ↦ none | some r ↦ some r.kinds ]) (some k) → (r : Row) × (get_elem? table o ≡ some r) × (r.kinds ≡ k)
     go none p q = absurd (let z : ◌≡◌ {A = ℕ} 0 1 = cc in omega arith)
@@ -97,7 +97,7 @@ ins-fits u c i h = go (kinds i.op) refl h
         let z = eqb (insSpare (insWord i)) 0 in
         ap (λ (j : Instruction). elim (kinds j.op) [ none ↦ false | some l ↦ z && fieldFits u l.0 j.fst && fieldFits u l.1 j.snd && fieldFits u l.2 j.thd ]) (ins-back i (ins-small u c i h))
         ∙ (ap (λ (x : Option (Kind × Kind × Kind)). elim x [ none ↦ false | some l ↦ z && fieldFits u l.0 i.fst && fieldFits u l.1 i.snd && fieldFits u l.2 i.thd ]) e
-        ∙ both_true (both_true (both_true (eq-eqb (insSpare (insWord i)) 0 (ins-zeros i (ins-small u c i h))) (field_fits u k.0 i.fst q.0)) (field_fits u k.1 i.snd q.1)) (field_fits u k.2 i.thd q.2))
+        ∙ both_true (both_true (both_true (eq-eqb (insSpare (insWord i)) 0 (ins-zeros i (ins-small u c i h))) (field-fits u k.0 i.fst q.0)) (field-fits u k.1 i.snd q.1)) (field-fits u k.2 i.thd q.2))
 
 -- ---- sections
 
@@ -127,15 +127,15 @@ next-small u c unfixed h = tt
 next-small u c (section t) h = omega (arith, c.sections)
 next-small u c (line r) h = omega (arith, c.numbers)
 
-next_fits : (u : Counts) (x : SectionOrLine) → NextFit u x → successFits u x ≡ true
+next-fits : (u : Counts) (x : SectionOrLine) → NextFit u x → successFits u x ≡ true
 unfolding successFits
-next_fits u unfixed h = refl
-next_fits u (section t) h = lt-ltb t u.sections h
-next_fits u (line r) h = lt-ltb r u.numbers h
+next-fits u unfixed h = refl
+next-fits u (section t) h = lt-ltb t u.sections h
+next-fits u (line r) h = lt-ltb r u.numbers h
 
-start_fits : (u : Counts) → Counted u → (i : ℕ) (s : SectionCode) (k : ℕ) → SectFit u i s → startFits u i (sectionRun s k) ≡ true
+start-fits : (u : Counts) → Counted u → (i : ℕ) (s : SectionCode) (k : ℕ) → SectFit u i s → startFits u i (sectionRun s k) ≡ true
 unfolding startFits
-start_fits u c i s k f = go (ltb i u.lines) refl
+start-fits u c i s k f = go (ltb i u.lines) refl
   where
     go : (b : Bool) → ltb i u.lines ≡ b
         → ◌≡◌ {A = Bool} (elim b [ true ↦ isOne (flag s.lineStart) | false ↦ not (isOne (flag s.lineStart)) || not (isFixed (successOf (sectionRun s k))) && eqb (length s.instrs) 0 ]) true
@@ -144,10 +144,10 @@ start_fits u c i s k f = go (ltb i u.lines) refl
         ap₂ (λ (a : Bool) (x : SectionOrLine). not a || not (isFixed x) && eqb (length s.instrs) 0) (flag-back s.lineStart) (next-back s.success (flag s.lineStart) k (length s.instrs) (next-small u c s.success f.success))
         ∙ f.later (ltb-false i u.lines e)
 
-runs_fit : (u : Counts) → Counted u → (i k : ℕ) (ss : List SectionCode) → AllAt (SectFit u) i ss → k + codeLen ss ≡ u.instrs → runsFit u i k (runWords k ss) ≡ true
+runs-fit : (u : Counts) → Counted u → (i k : ℕ) (ss : List SectionCode) → AllAt (SectFit u) i ss → k + codeLen ss ≡ u.instrs → runsFit u i k (runWords k ss) ≡ true
 unfolding runsFit runWords
-runs_fit u c i k [] h e = eq-eqb k u.instrs (omega arith)
-runs_fit u c i k (s ∷ ss) h e =
+runs-fit u c i k [] h e = eq-eqb k u.instrs (omega arith)
+runs-fit u c i k (s ∷ ss) h e =
     let r = sectionRun s k in
     let f = h.0 in
     let back : wordRun (runWord r) ≡ r = back-of in
@@ -158,7 +158,7 @@ runs_fit u c i k (s ∷ ss) h e =
     ∙ (ap
     (λ (b : Bool). elim b as (λ y. Bool) [ false ↦ false | true ↦ runsFit u (suc i) (k + length s.instrs) (runWords (k + length s.instrs) ss) ])
     tested
-    ∙ runs_fit u c (suc i) (k + length s.instrs) ss h.1 (omega arith))
+    ∙ runs-fit u c (suc i) (k + length s.instrs) ss h.1 (omega arith))
   where
     back-of : wordRun (runWord (sectionRun s k)) ≡ sectionRun s k
     back-of = fields-back s.lineStart s.success k (length s.instrs) (next-small u c s.success h.0.success) (omega (arith, c.instrs)) (omega (arith, c.instrs))
@@ -167,30 +167,30 @@ runs_fit u c i k (s ∷ ss) h e =
     tested =
         let r = sectionRun s k in
         both_true
-        (both_true (both_true (eq-eqb (runSpare (runWord r)) 0 (zeros-back s.lineStart s.success k (length s.instrs) (next-small u c s.success h.0.success) (omega (arith, c.instrs)) (omega (arith, c.instrs)))) (eq-eqb k k refl)) (ap (successFits u) (next-back s.success (flag s.lineStart) k (length s.instrs) (next-small u c s.success h.0.success)) ∙ next_fits u s.success h.0.success))
-        (start_fits u c i s k h.0)
+        (both_true (both_true (eq-eqb (runSpare (runWord r)) 0 (zeros-back s.lineStart s.success k (length s.instrs) (next-small u c s.success h.0.success) (omega (arith, c.instrs)) (omega (arith, c.instrs)))) (eq-eqb k k refl)) (ap (successFits u) (next-back s.success (flag s.lineStart) k (length s.instrs) (next-small u c s.success h.0.success)) ∙ next-fits u s.success h.0.success))
+        (start-fits u c i s k h.0)
 
 -- ---- strings, counts, all
 
 pub record SpanFit (p : ℕ) (t : Span) : Type 0 where
   pub inside : t.start + t.size ≤ p
-  pub short : t.size < 128
+  pub short : t.size ≤ mostChars
 
-span_fits : (u : Counts) → Counted u → (t : Span) → SpanFit u.pool t → spanFits u (spanWord t) ≡ true
+span-fits : (u : Counts) → Counted u → (t : Span) → SpanFit u.pool t → spanFits u (spanWord t) ≡ true
 unfolding spanFits wordSpan spanWord
-span_fits u c t f =
+span-fits u c t f =
     let w = spanWord t in
     both_true
     (eq-eqb (spanSpare w) 0 (omega arith))
     (le-leb (unpack stringLayout 0 w + unpack stringLayout 1 w) u.pool (omega (arith, f.inside, f.short, c.pool)))
 
-all_map : {A B : Type 0} (f : A → B) (P : A → Type 0) (Q : B → Type 0) → ((a : A) → P a → Q (f a)) → (l : List A) → All P l → All Q (map f l)
-all_map f P Q h [] p = tt
-all_map f P Q h (a ∷ l) p = (h a p.0, all_map f P Q h l p.1)
+all-mapped : {A B : Type 0} (f : A → B) (P : A → Type 0) (Q : B → Type 0) → ((a : A) → P a → Q (f a)) → (l : List A) → All P l → All Q (map f l)
+all-mapped f P Q h [] p = tt
+all-mapped f P Q h (a ∷ l) p = (h a p.0, all-mapped f P Q h l p.1)
 
-count_fits : {A : Type 0} (n : ℕ) (t : List A) → n ≤ 65535 → n ≤ length t → countFits n t ≡ true
+count-fits : {A : Type 0} (n : ℕ) (t : List A) → n ≤ mostCount → n ≤ length t → countFits n t ≡ true
 unfolding countFits
-count_fits n t p q = both_true (le-leb n 65535 p) (le-leb n (length t) q)
+count-fits n t p q = both_true (le-leb n mostCount p) (le-leb n (length t) q)
 
 -- What a machine must be for its words to keep the rules.
 pub record MachineFit (m : Machine) : Type 0 where
@@ -224,13 +224,13 @@ module _ (m : Machine) (f : MachineFit m) (l : Tables) (h : InTables l m) where
   unfolding countsFit countsOf u
   counts-fit =
       let ss = m.sections in
-      let a = both_true (both_true (both_true (lt-ltb 0 m.lines c.some-lines) (le-leb m.lines 255 c.lines)) (le-leb m.lines (length ss) c.starts)) (le-leb m.values 65535 c.values) in
-      let b = both_true a (count_fits (length ss) l.sections c.sections (long-enough (length ss) l.sections (runWords 0 ss) h.sections (words-length 0 ss))) in
-      let d = both_true b (count_fits (length (allCode ss)) l.instrs c.instrs (long-enough (length (allCode ss)) l.instrs (map insWord (allCode ss)) h.instrs (length-map (allCode ss) insWord))) in
-      let e = both_true d (count_fits (length m.numbers) l.numbers c.numbers (long-enough (length m.numbers) l.numbers m.numbers h.numbers refl)) in
-      let g = both_true e (count_fits (length m.strings) l.strings c.strings (long-enough (length m.strings) l.strings (map spanWord m.strings) h.strings (length-map m.strings spanWord))) in
-      let i = both_true g (count_fits (length m.pool) l.pool c.pool (long-enough (length m.pool) l.pool m.pool h.pool refl)) in
-      both_true i (count_fits (length m.names) l.names c.names (long-enough (length m.names) l.names m.names h.names refl))
+      let a = both_true (both_true (both_true (lt-ltb 0 m.lines c.some-lines) (le-leb m.lines mostLines c.lines)) (le-leb m.lines (length ss) c.starts)) (le-leb m.values mostCount c.values) in
+      let b = both_true a (count-fits (length ss) l.sections c.sections (long-enough (length ss) l.sections (runWords 0 ss) h.sections (words-length 0 ss))) in
+      let d = both_true b (count-fits (length (allCode ss)) l.instrs c.instrs (long-enough (length (allCode ss)) l.instrs (map insWord (allCode ss)) h.instrs (length-map (allCode ss) insWord))) in
+      let e = both_true d (count-fits (length m.numbers) l.numbers c.numbers (long-enough (length m.numbers) l.numbers m.numbers h.numbers refl)) in
+      let g = both_true e (count-fits (length m.strings) l.strings c.strings (long-enough (length m.strings) l.strings (map spanWord m.strings) h.strings (length-map m.strings spanWord))) in
+      let i = both_true g (count-fits (length m.pool) l.pool c.pool (long-enough (length m.pool) l.pool m.pool h.pool refl)) in
+      both_true i (count-fits (length m.names) l.names c.names (long-enough (length m.names) l.names m.names h.names refl))
 
   words-fit : wordsFit l (countsOf m) ≡ true
   unfolding wordsFit countsOf u
@@ -238,9 +238,9 @@ module _ (m : Machine) (f : MachineFit m) (l : Tables) (h : InTables l m) where
       let ss = m.sections in
       let i = map insWord (allCode ss) in
       let t = map spanWord m.strings in
-      let a = ap (allb (insFits u)) h.instrs ∙ all-true (insFits u) i (all_map insWord (λ (x : Instruction). Held u (kinds x.op) x) (λ w. insFits u w ≡ true) (ins-fits u c) (allCode ss) f.instrs) in
-      let b = ap (runsFit u 0 0) h.sections ∙ runs_fit u c 0 0 ss f.sects (omega (arith, code-length ss)) in
-      let d = ap (allb (spanFits u)) h.strings ∙ all-true (spanFits u) t (all_map spanWord (SpanFit u.pool) (λ w. spanFits u w ≡ true) (span_fits u c) m.strings f.spans) in
+      let a = ap (allb (insFits u)) h.instrs ∙ all-true (insFits u) i (all-mapped insWord (λ (x : Instruction). Held u (kinds x.op) x) (λ w. insFits u w ≡ true) (ins-fits u c) (allCode ss) f.instrs) in
+      let b = ap (runsFit u 0 0) h.sections ∙ runs-fit u c 0 0 ss f.sects (omega (arith, code-length ss)) in
+      let d = ap (allb (spanFits u)) h.strings ∙ all-true (spanFits u) t (all-mapped spanWord (SpanFit u.pool) (λ w. spanFits u w ≡ true) (span-fits u c) m.strings f.spans) in
       let e = ap (allb (nameFits u)) h.names ∙ all-true (nameFits u) m.names f.names in
       both_true (both_true (both_true a b) d) e
 

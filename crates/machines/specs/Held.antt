@@ -6,11 +6,11 @@ use mathlib.Core.List.{List, [], ◌∷◌}
 use Rattle.rules.specs.Instr.{Row, Instruction, isJump, shown, Kind, unused, num, str, val, place, table, kinds}
 use Rattle.rules.specs.Machine.{SectionOrLine, unfixed, section, line, SectionCode, absent, Machine}
 use Rattle.rules.specs.Tables.{Counts, countsOf, allb, allCode, nameFits}
-use Rattle.rules.specs.Demand.{All, FieldsBelow, RegistersBelow}
+use Rattle.rules.specs.Preservation.{All, FieldsBelow, RegistersBelow}
 use Rattle.bounds.specs.Good.{CodeGood, NextGood, SectGood}
 use Rattle.bounds.specs.Jumps.{aimed-other}
 use Rattle.laws.specs.Lists.{not-both, all-append, all-at, both}
-use Rattle.machines.specs.Fits.{row_of, isPlace, Held, Counted, SectFit, NextFit, SpanFit, MachineFit}
+use Rattle.machines.specs.Fits.{row-of, isPlace, Held, Counted, SectFit, NextFit, SpanFit, MachineFit}
 use Rattle.machines.specs.Targets.{JumpBelow, NextBelow, Aims, Loose}
 use Rattle.machines.specs.Shape.{numbered}
 use Rattle.laws.specs.Table.{all-at as all-rows}
@@ -23,17 +23,17 @@ noPlace k = not (isPlace k.0) && not (isPlace k.1) && not (isPlace k.2)
 rowPlain : Row → Bool
 rowPlain r = noPlace r.kinds
 
-rest_plain : allb rowPlain (drop 2 table) ≡ true
+rest-plain : allb rowPlain (drop 2 table) ≡ true
 unfolding allb table rowPlain
-rest_plain = refl
+rest-plain = refl
 
-no_place : (o : ℕ) → leb o 1 ≡ false → (k : Kind × Kind × Kind) → kinds o ≡ some k → noPlace k ≡ true
+no-place : (o : ℕ) → leb o 1 ≡ false → (k : Kind × Kind × Kind) → kinds o ≡ some k → noPlace k ≡ true
 unfolding table rowPlain
-no_place zero h k e = absurd (not-both true refl h)
-no_place (suc zero) h k e = absurd (not-both true refl h)
-no_place (suc (suc o)) h k e =
-    let r = row_of (suc (suc o)) k e in
-    subst (λ (z : Kind × Kind × Kind). noPlace z ≡ true) r.2 (all-rows rowPlain (drop 2 table) o r.0 rest_plain (sym r.1))
+no-place zero h k e = absurd (not-both true refl h)
+no-place (suc zero) h k e = absurd (not-both true refl h)
+no-place (suc (suc o)) h k e =
+    let r = row-of (suc (suc o)) k e in
+    subst (λ (z : Kind × Kind × Kind). noPlace z ≡ true) r.2 (all-rows rowPlain (drop 2 table) o r.0 rest-plain (sym r.1))
 
 -- ---- an instruction holds what it must
 
@@ -62,7 +62,7 @@ held u i r j = go (isJump i) refl
   where
     go : (b : Bool) → isJump i ≡ b → Held u (kinds i.op) i
     go true e = held-jump u i.op (shown i).fst i.fst i.snd i.thd (leb-true i.op 1 e) r (j e)
-    go false e = held-other u i (kinds i.op) (no_place i.op e) (subst (RegistersBelow u) (aimed-other 0 i e) r)
+    go false e = held-other u i (kinds i.op) (no-place i.op e) (subst (RegistersBelow u) (aimed-other 0 i e) r)
 
 -- ---- sections
 
@@ -77,10 +77,10 @@ module _ (u : Counts) where
   code-held [] g a = tt
   code-held (i ∷ c) g a = (held u i g.0 a.0, code-held c g.1 a.1)
 
-  all_held : (ss : List SectionCode) → All Sound ss → All (Aims u.sections) ss → All H (allCode ss)
+  all-held : (ss : List SectionCode) → All Sound ss → All (Aims u.sections) ss → All H (allCode ss)
   unfolding allCode
-  all_held [] g a = tt
-  all_held (s ∷ ss) g a = all-append H s.instrs (allCode ss) (code-held s.instrs g.0.0 a.0.0) (all_held ss g.1 a.1)
+  all-held [] g a = tt
+  all-held (s ∷ ss) g a = all-append H s.instrs (allCode ss) (code-held s.instrs g.0.0 a.0.0) (all-held ss g.1 a.1)
 
   next-fit : (x : SectionOrLine) → NextGood (λ r. r < u.numbers) x → NextBelow u.sections x → NextFit u x
   next-fit unfixed g a = tt
@@ -101,7 +101,7 @@ machine-fit m c f sp nm =
     let u = countsOf m in
     record {
       counted = c;
-      instrs = all_held u ss f.good f.aims;
+      instrs = all-held u ss f.good f.aims;
       sects = numbered (SectFit u) 0 ss (λ t p.
           let g = all-at (SectGood (RegistersBelow u) (λ r. r < u.numbers)) absent ss f.good t p in
           let a = all-at (Aims (length ss)) absent ss f.aims t p in

@@ -9,7 +9,7 @@ use Rattle.std.proofs.Math.Seq.{get_or-append-add}
 use Rattle.bounds.specs.Lengths.{length-low, heads-length, length-tailOf}
 use Rattle.rules.specs.Machine.{SectionCode, absent, isFixed}
 use Rattle.rules.specs.Script.{Stmts, nil, plain, goto, ite, Script}
-use Rattle.rules.specs.Assemble.{nextLine, sectionsMade, stmtSections, head_of, tailOf, lineSections, heads, tails, sectionsOf}
+use Rattle.rules.specs.Assemble.{nextLine, sectionsMade, stmtSections, headOf, tailOf, lineSections, heads, tails, sectionsOf}
 
 -- ---- sections found in a machine: the first at p, the others from n + 1 on
 
@@ -44,13 +44,13 @@ base n (s ∷ ss) zero = n
 base n (s ∷ ss) (suc u) = base (n + sectionsMade s) ss u
 
 heads-at : (L i n : ℕ) (ts : Script) (u : ℕ) → u < length ts
-    → get_or (heads L i n ts) u absent ≡ head_of (nextLine L (i + u)) (lineSections L (i + u) (base n ts u) (get_or ts u nil))
+    → get_or (heads L i n ts) u absent ≡ headOf (nextLine L (i + u)) (lineSections L (i + u) (base n ts u) (get_or ts u nil))
 unfolding base
 heads-at L i n [] u h = absurd (not-suc-le-zero h)
-heads-at L i n (s ∷ ts) zero h = ap (λ (k : ℕ). head_of (nextLine L k) (lineSections L k n s)) (omega arith)
+heads-at L i n (s ∷ ts) zero h = ap (λ (k : ℕ). headOf (nextLine L k) (lineSections L k n s)) (omega arith)
 heads-at L i n (s ∷ ts) (suc u) h =
     heads-at L (suc i) (n + sectionsMade s) ts u (le_of_suc-le-suc h)
-    ∙ ap (λ (k : ℕ). head_of (nextLine L k) (lineSections L k (base (n + sectionsMade s) ts u) (get_or ts u nil))) (omega arith)
+    ∙ ap (λ (k : ℕ). headOf (nextLine L k) (lineSections L k (base (n + sectionsMade s) ts u) (get_or ts u nil))) (omega arith)
 
 tails-at : (m : List SectionCode) (L i n : ℕ) (ts : Script) → Stands m n n (tails L i n ts) → (u : ℕ) → u < length ts
     → Stands m (base n ts u) (base n ts u) (tailOf (lineSections L (i + u) (base n ts u) (get_or ts u nil)))
@@ -68,25 +68,25 @@ tails-at m L i n (s ∷ ts) f (suc u) h =
     (tails-at m L (suc i) (n + sectionsMade s) ts g' u (le_of_suc-le-suc h))
 
 module _ (m : List SectionCode) (L : ℕ) where
-  pub line-fits : (l : List SectionCode) (e u b : ℕ) → get_or m u absent ≡ head_of e l → Stands m b b (tailOf l) → Stands m u b l
+  pub line-fits : (l : List SectionCode) (e u b : ℕ) → get_or m u absent ≡ headOf e l → Stands m b b (tailOf l) → Stands m u b l
   line-fits [] e u b h f = tt
   line-fits (s ∷ l) e u b h f = ((ap (λ (z : SectionCode). z.instrs) h, ap (λ (z : SectionCode). z.success) h), f.1)
 
-pub head_fixed : (e b : ℕ) (s : Stmts) → isFixed (head_of e (stmtSections true e b e s)).success ≡ true
-head_fixed e b nil = refl
-head_fixed e b (plain o s) = refl
-head_fixed e b (goto o r s) = refl
-head_fixed e b (ite o c u v s) = refl
+pub head-fixed : (e b : ℕ) (s : Stmts) → isFixed (headOf e (stmtSections true e b e s)).success ≡ true
+head-fixed e b nil = refl
+head-fixed e b (plain o s) = refl
+head-fixed e b (goto o r s) = refl
+head-fixed e b (ite o c u v s) = refl
 
 module _ (t : Script) (pos : 0 < length t) where
   abbrev L : ℕ
   L = length t
 
-  pub at_head : (u : ℕ) → u < length t → get_or (sectionsOf t) u absent ≡ head_of (nextLine L u) (lineSections L u (base L t u) (get_or t u nil))
+  pub at-head : (u : ℕ) → u < length t → get_or (sectionsOf t) u absent ≡ headOf (nextLine L u) (lineSections L u (base L t u) (get_or t u nil))
   unfolding sectionsOf
-  at_head u h =
+  at-head u h =
       get_or-append (heads L 0 L t) (tails L 0 L t) absent u (rw (heads-length L 0 L t) h)
-      ∙ (heads-at L 0 L t u h ∙ ap (λ (k : ℕ). head_of (nextLine L k) (lineSections L k (base L t u) (get_or t u nil))) (omega arith))
+      ∙ (heads-at L 0 L t u h ∙ ap (λ (k : ℕ). headOf (nextLine L k) (lineSections L k (base L t u) (get_or t u nil))) (omega arith))
 
   fits-tails : Stands (sectionsOf t) L L (tails L 0 L t)
   unfolding sectionsOf
@@ -104,12 +104,12 @@ module _ (t : Script) (pos : 0 < length t) where
       (omega arith)
       (tails-at (sectionsOf t) L 0 L t fits-tails u h)
 
-  head-start : (e : ℕ) (l : List SectionCode) → (head_of e l).lineStart ≡ true
+  head-start : (e : ℕ) (l : List SectionCode) → (headOf e l).lineStart ≡ true
   head-start e [] = refl
   head-start e (s ∷ l) = refl
 
   pub lower-fixed : (u : ℕ) → u < length t → isFixed (get_or (sectionsOf t) u absent).success ≡ true
-  lower-fixed u h = ap (λ (z : SectionCode). isFixed z.success) (at_head u h) ∙ head_fixed (nextLine L u) (base L t u) (get_or t u nil)
+  lower-fixed u h = ap (λ (z : SectionCode). isFixed z.success) (at-head u h) ∙ head-fixed (nextLine L u) (base L t u) (get_or t u nil)
 
   pub lower-starts : (u : ℕ) → u < length t → (get_or (sectionsOf t) u absent).lineStart ≡ true
-  lower-starts u h = ap (λ (z : SectionCode). z.lineStart) (at_head u h) ∙ head-start (nextLine L u) (lineSections L u (base L t u) (get_or t u nil))
+  lower-starts u h = ap (λ (z : SectionCode). z.lineStart) (at-head u h) ∙ head-start (nextLine L u) (lineSections L u (base L t u) (get_or t u nil))

@@ -12,13 +12,13 @@ use Rattle.rules.specs.Reading.{script}
 use Rattle.rules.specs.Clean.{cleanSections, cleaned}
 use Rattle.rules.specs.Combine.{combineSections, combined}
 use Rattle.rules.specs.Lowered.{Options, lowered, finished}
-use Rattle.rules.specs.Operations.{size_of, estimate, fixedHere, jumpsFixed, cleanIn, allAhead, combineIn}
+use Rattle.rules.specs.Operations.{sizeOf, estimate, fixedHere, jumpsFixed, cleanIn, allAhead, combineIn}
 use Rattle.machines.specs.Ranks.{rank-low}
 use Rattle.machines.specs.Lowered.{lower-fixed}
 use Rattle.bounds.specs.Stay.{lowered-sections}
 use Rattle.bounds.specs.LimitsTree.{limits}
 use Rattle.bounds.specs.Estimate.{codeLen, code-length, WithinEstimate, estimated}
-use Rattle.machines.specs.TreeFits.{Sizes, pos, ready, finish-counts, lines_are}
+use Rattle.machines.specs.TreeFits.{Sizes, pos, ready, finish-counts, lines-are}
 use Rattle.machines.specs.Accepts.{all-fixed, clean-test}
 use Rattle.machines.specs.Ahead.{all-test, clean-ahead}
 
@@ -29,7 +29,7 @@ clean-accepts o s t e l =
     let lim = limits s t e in
     let m = lowered o t in
     let test : (allb fixedHere (take m.lines m.sections) && allb (jumpsFixed m.sections) m.sections) ≡ true =
-    ap₂ (λ (n : ℕ) (z : List SectionCode). allb fixedHere (take n z) && allb (jumpsFixed z) z) (lines_are o t lim) (lowered-sections o t) ∙ clean-test (script t) (pos o t lim)
+    ap₂ (λ (n : ℕ) (z : List SectionCode). allb fixedHere (take n z) && allb (jumpsFixed z) z) (lines-are o t lim) (lowered-sections o t) ∙ clean-test (script t) (pos o t lim)
     in
     ap (λ (b : Bool). elim b as (λ z. Res Machine) [ true ↦ ok (cleaned m) | false ↦ refused Refusal.needsUnfixed ]) test
 
@@ -50,7 +50,7 @@ combine-accepts o s t e l =
     ahead
 
 -- The finished machine keeps within the estimates too.
-pub finished-estimated : (o : Options) (s : List ℕ) (t : Tree) → parse s ≡ ok t → WithinEstimate (countsOf (finished o t)) (estimate (size_of t))
+pub finished-estimated : (o : Options) (s : List ℕ) (t : Tree) → parse s ≡ ok t → WithinEstimate (countsOf (finished o t)) (estimate (sizeOf t))
 unfolding countsOf finished cleaned combined
 finished-estimated o s t e =
     let lim = limits s t e in

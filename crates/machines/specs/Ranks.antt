@@ -24,10 +24,10 @@ kept-pos (s ∷ m) (suc t) h = go (isFixed s.success) refl (kept-pos m t h)
     go true e p = rw e (omega arith)
     go false e p = rw e p
 
-keep_at : (m : List SectionCode) (t : ℕ) → IsFixedAt m t → get_or (keep m) (rank m t) absent ≡ get_or m t absent
-keep_at [] t h = absurd (not-both false h refl)
-keep_at (s ∷ m) zero h = rw h
-keep_at (s ∷ m) (suc t) h = go (isFixed s.success) refl (keep_at m t h)
+keep-at : (m : List SectionCode) (t : ℕ) → IsFixedAt m t → get_or (keep m) (rank m t) absent ≡ get_or m t absent
+keep-at [] t h = absurd (not-both false h refl)
+keep-at (s ∷ m) zero h = rw h
+keep-at (s ∷ m) (suc t) h = go (isFixed s.success) refl (keep-at m t h)
   where
     up : (n : ℕ) → 0 < n → get_or (s ∷ keep m) n absent ≡ get_or (keep m) (pred n) absent
     up zero p = absurd (not-suc-le-zero p)
@@ -37,10 +37,10 @@ keep_at (s ∷ m) (suc t) h = go (isFixed s.success) refl (keep_at m t h)
     go true e p = rw e (up (kept m t) (kept-pos m t h) ∙ p)
     go false e p = rw e p
 
-kept_low : (m : List SectionCode) (t : ℕ) → ((u : ℕ) → u ≤ t → IsFixedAt m u) → kept m t ≡ suc t
-kept_low [] t h = absurd (not-both false (h 0 (omega arith)) refl)
-kept_low (s ∷ m) zero h = rw (h 0 (omega arith))
-kept_low (s ∷ m) (suc t) h = rw (h 0 (omega arith)) (ap suc (kept_low m t (λ u p. h (suc u) (omega arith))))
+kept-low : (m : List SectionCode) (t : ℕ) → ((u : ℕ) → u ≤ t → IsFixedAt m u) → kept m t ≡ suc t
+kept-low [] t h = absurd (not-both false (h 0 (omega arith)) refl)
+kept-low (s ∷ m) zero h = rw (h 0 (omega arith))
+kept-low (s ∷ m) (suc t) h = rw (h 0 (omega arith)) (ap suc (kept-low m t (λ u p. h (suc u) (omega arith))))
 
 fixed-keep : (m : List SectionCode) → Fixed (keep m)
 fixed-keep [] = tt
@@ -52,15 +52,15 @@ fixed-keep (s ∷ m) = go (isFixed s.success) refl (fixed-keep m)
 
 module _ (L : ℕ) (pos : 0 < L) (m : List SectionCode) (fixed-lines : (t : ℕ) → t < L → IsFixedAt m t) where
   pub rank-low : (t : ℕ) → t < L → rank m t ≡ t
-  rank-low t h = ap pred (kept_low m t (λ u p. fixed-lines u (omega arith)))
+  rank-low t h = ap pred (kept-low m t (λ u p. fixed-lines u (omega arith)))
 
   pub at-rank : (t : ℕ) → IsFixedAt m t → get_or (cleanSections m) (rank m t) absent ≡ ren (rank m) (get_or m t absent)
   unfolding cleanSections
-  at-rank t h = get_or-map (ren (rank m)) (keep m) (rank m t) absent ∙ ap (ren (rank m)) (keep_at m t h)
+  at-rank t h = get_or-map (ren (rank m)) (keep m) (rank m t) absent ∙ ap (ren (rank m)) (keep-at m t h)
 
-  pub clean_ready : ((t : ℕ) → t < L → (get_or m t absent).lineStart ≡ true) → Ready L (cleanSections m)
+  pub clean-ready : ((t : ℕ) → t < L → (get_or m t absent).lineStart ≡ true) → Ready L (cleanSections m)
   unfolding cleanSections
-  clean_ready h =
+  clean-ready h =
       record {
         fixed = fixed-map (rank m) (keep m) (fixed-keep m);
         starts = λ t p. ap (λ (n : ℕ). (get_or (cleanSections m) n absent).lineStart) (sym (rank-low t p)) ∙ (ap (λ (s : SectionCode). s.lineStart) (at-rank t (fixed-lines t p)) ∙ h t p);

@@ -5,10 +5,10 @@ use Rattle.std.proofs.lemmas.List.{length-map, map-append}
 use Rattle.rules.specs.Instr.{fall, Instruction, isJump}
 use Rattle.rules.specs.Machine.{SectionOrLine, unfixed, section, line, SectionCode, absent, isFixed}
 use Rattle.rules.specs.Script.{Script}
-use Rattle.rules.specs.Assemble.{nextLine, sectionsMade, head_of, lineSections, heads, tails, sectionsOf}
+use Rattle.rules.specs.Assemble.{nextLine, sectionsMade, headOf, lineSections, heads, tails, sectionsOf}
 use Rattle.rules.specs.Clean.{renIns, renNext, ren, keep, rank, cleanSections}
 use Rattle.rules.specs.Combine.{hit, refsNext, refsIns, refsCode, joined, combineAt, combineSections}
-use Rattle.rules.specs.Demand.{All}
+use Rattle.rules.specs.Preservation.{All}
 use Rattle.bounds.specs.Lengths.{heads-length}
 use Rattle.joins.specs.References.{no-hit}
 use Rattle.joins.specs.Numbers.{fall-below}
@@ -18,7 +18,7 @@ use Rattle.joins.specs.Joins.{came, Stands, joint, other, stands, clear-at, firs
 use Rattle.machines.specs.Fits.{AllAt}
 use Rattle.machines.specs.Targets.{JumpBelow, NextBelow, Aims, Loose, tails-loose}
 use Rattle.laws.specs.Lists.{all-append, all-of, all-at}
-use Rattle.machines.specs.Lowered.{head_fixed}
+use Rattle.machines.specs.Lowered.{head-fixed}
 
 -- ---- lists by their elements
 
@@ -102,9 +102,9 @@ lower-later t u h k =
     let e : get_or (A ++ B) u absent ≡ get_or B (u - L) absent = ap (λ (n : ℕ). get_or (A ++ B) n absent) (omega arith) ∙ get_or-append-add A B (u - L) absent in
     subst Loose (sym e) (all-at Loose absent B (tails-loose L 0 L t) (u - L) (omega (arith, length-append A B)))
 
-keep_append : (a b : List SectionCode) → keep (a ++ b) ≡ keep a ++ keep b
-keep_append [] b = refl
-keep_append (s ∷ a) b = go (isFixed s.success) (keep_append a b)
+keep-append : (a b : List SectionCode) → keep (a ++ b) ≡ keep a ++ keep b
+keep-append [] b = refl
+keep-append (s ∷ a) b = go (isFixed s.success) (keep-append a b)
   where
     go : (x : Bool) → keep (a ++ b) ≡ keep a ++ keep b → cond x (s ∷ keep (a ++ b)) (keep (a ++ b)) ≡ cond x (s ∷ keep a) (keep a) ++ keep b
     go true h = ap (λ (l : List SectionCode). s ∷ l) h
@@ -113,9 +113,9 @@ keep_append (s ∷ a) b = go (isFixed s.success) (keep_append a b)
 keep-heads : (L i n : ℕ) (t : Script) → keep (heads L i n t) ≡ heads L i n t
 keep-heads L i n [] = refl
 keep-heads L i n (s ∷ t) =
-    let h = head_of (nextLine L i) (lineSections L i n s) in
+    let h = headOf (nextLine L i) (lineSections L i n s) in
     let r = heads L (suc i) (n + sectionsMade s) t in
-    ap (λ (x : Bool). cond x (h ∷ keep r) (keep r)) (head_fixed (nextLine L i) n s) ∙ ap (λ (l : List SectionCode). h ∷ l) (keep-heads L (suc i) (n + sectionsMade s) t)
+    ap (λ (x : Bool). cond x (h ∷ keep r) (keep r)) (head-fixed (nextLine L i) n s) ∙ ap (λ (l : List SectionCode). h ∷ l) (keep-heads L (suc i) (n + sectionsMade s) t)
 
 loose-inner : (a b c : Bool) → (not a || not b && c) ≡ true → b ≡ true → a ≡ false
 loose-inner true true c h k = absurd (let z : ◌≡◌ {A = ℕ} 0 1 = cc in omega arith)
@@ -146,15 +146,15 @@ clean-inner t u h k =
     let f = rank (A ++ B) in
     let A' = map (ren f) A in
     let B' = map (ren f) (keep B) in
-    let split : map (ren f) (keep (A ++ B)) ≡ A' ++ B' = ap (map (ren f)) (keep_append A B ∙ ap (λ (l : List SectionCode). l ++ keep B) (keep-heads L 0 L t)) ∙ map-append (ren f) A (keep B) in
+    let split : map (ren f) (keep (A ++ B)) ≡ A' ++ B' = ap (map (ren f)) (keep-append A B ∙ ap (λ (l : List SectionCode). l ++ keep B) (keep-heads L 0 L t)) ∙ map-append (ren f) A (keep B) in
     let la : length A' ≡ L = length-map A (ren f) ∙ heads-length L 0 L t in
     let e : get_or (map (ren f) (keep (A ++ B))) u absent ≡ get_or B' (u - L) absent = ap (λ (l : List SectionCode). get_or l u absent) split ∙ (ap (λ (n : ℕ). get_or (A' ++ B') n absent) (omega arith) ∙ get_or-append-add A' B' (u - L) absent) in
     ap (λ (s : SectionCode). s.lineStart) e ∙ all-at NoStart absent B' (ren-inner f (keep B) (keep-inner B (tails-loose L 0 L t))) (u - L) (omega (arith, length-append A' B', ap length split))
 
-pub keep_some : (t : Script) → length t ≤ length (keep (sectionsOf t))
+pub keep-some : (t : Script) → length t ≤ length (keep (sectionsOf t))
 unfolding sectionsOf
-keep_some t =
+keep-some t =
     let L = length t in
     let A = heads L 0 L t in
     let B = tails L 0 L t in
-    omega (arith, ap length (keep_append A B), ap length (keep-heads L 0 L t), length-append (keep A) (keep B), heads-length L 0 L t)
+    omega (arith, ap length (keep-append A B), ap length (keep-heads L 0 L t), length-append (keep A) (keep B), heads-length L 0 L t)

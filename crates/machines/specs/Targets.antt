@@ -5,9 +5,9 @@ use Rattle.std.proofs.lemmas.List.{length-map}
 use Rattle.rules.specs.Instr.{Instruction, isJump, aimed}
 use Rattle.rules.specs.Machine.{SectionOrLine, unfixed, section, line, SectionCode, isFixed}
 use Rattle.rules.specs.Script.{Stmts, nil, plain, goto, ite, Script}
-use Rattle.rules.specs.Assemble.{nextLine, orOne, sectionsMade, ownCode, entry, link, cond_code, inner, orEmpty, stmtSections, head_of, tailOf, lineSections, heads, tails, sectionsOf}
+use Rattle.rules.specs.Assemble.{nextLine, orOne, sectionsMade, ownCode, entry, link, condCode, inner, orEmpty, stmtSections, headOf, tailOf, lineSections, heads, tails, sectionsOf}
 use Rattle.rules.specs.Clean.{renIns, renNext, ren, keep, rank, cleanSections}
-use Rattle.rules.specs.Demand.{All}
+use Rattle.rules.specs.Preservation.{All}
 use Rattle.bounds.specs.Lengths.{nextLine-lt}
 use Rattle.bounds.specs.Own.{sizes}
 use Rattle.machines.specs.Fits.{loose}
@@ -44,7 +44,7 @@ module _ (N e : ℕ) (he : e < N) where
   entry-below (goto o r s) m k p q = omega arith
   entry-below (ite o c t f s) m k p q = omega arith
 
-  cond-aims : (t : Stmts) (c n : ℕ) → n < N → All (JumpBelow N) (cond_code t c n)
+  cond-aims : (t : Stmts) (c n : ℕ) → n < N → All (JumpBelow N) (condCode t c n)
   cond-aims nil c n h = tt
   cond-aims (plain o s) c n h = (λ q. h, tt)
   cond-aims (goto o r s) c n h = (λ q. h, tt)
@@ -75,7 +75,7 @@ module _ (N e : ℕ) (he : e < N) where
       let lt = stmtSections true e (suc n) nj t in
       let lf = stmtSections true e nf nj f in
       let r = inner [] (link b (entry s (suc nj) k)) ∷ stmtSections b e (suc nj) k s in (
-        (all-append (JumpBelow N) (ownCode e o) (cond_code t c (suc n)) (own-aims o) (cond-aims t c (suc n) (omega arith)), omega arith),
+        (all-append (JumpBelow N) (ownCode e o) (condCode t c (suc n)) (own-aims o) (cond-aims t c (suc n) (omega arith)), omega arith),
         all-append (Aims N)
             (orEmpty t nj lt)
             (orEmpty f nj lf ++ r)
@@ -89,7 +89,7 @@ module _ (N e : ℕ) (he : e < N) where
             ),
       )
 
-  head-aims : (l : List SectionCode) → All (Aims N) l → Aims N (head_of e l)
+  head-aims : (l : List SectionCode) → All (Aims N) l → Aims N (headOf e l)
   head-aims [] p = (tt, he)
   head-aims (s ∷ l) p = p.0
 
@@ -169,8 +169,8 @@ keep-take (suc k) (s ∷ m) = go (isFixed s.success) (keep-take k m)
 pred-below : (a b : ℕ) → a ≤ b → 0 < b → pred a < b
 pred-below a b h p = omega arith
 
-pub rank_below : (m : List SectionCode) → 0 < length (keep m) → (t : ℕ) → rank m t < length (keep m)
-rank_below m h t = pred-below (length (keep (take (suc t) m))) (length (keep m)) (keep-take (suc t) m) h
+pub rank-below : (m : List SectionCode) → 0 < length (keep m) → (t : ℕ) → rank m t < length (keep m)
+rank-below m h t = pred-below (length (keep (take (suc t) m))) (length (keep m)) (keep-take (suc t) m) h
 
 code-aims : (n : ℕ) (f : ℕ → ℕ) → ((t : ℕ) → f t < n) → (c : List Instruction) → All (JumpBelow n) (map (renIns f) c)
 code-aims n f h [] = tt
@@ -191,4 +191,4 @@ clean-length m = length-map (keep m) (ren (rank m))
 
 pub clean-aims : (m : List SectionCode) → 0 < length (keep m) → All (Aims (length (cleanSections m))) (cleanSections m)
 unfolding cleanSections
-clean-aims m h = ren-aims (length (cleanSections m)) (rank m) (λ t. omega (arith, rank_below m h t, clean-length m)) (keep m)
+clean-aims m h = ren-aims (length (cleanSections m)) (rank m) (λ t. omega (arith, rank-below m h t, clean-length m)) (keep m)

@@ -1,5 +1,5 @@
 -- The strings of a parsed tree are short, and their spans and the names' words keep the rules.
-use Rattle.std.specs.Prelude.{◌≡◌, refl, Bool, true, false, List, [], ◌∷◌, ◌++◌, ℕ, ◌+◌, ◌≤◌, ◌<◌, eqb, ltb, length, get_or}
+use Rattle.std.specs.Prelude.{◌≡◌, refl, Bool, true, false, List, [], ◌∷◌, ◌++◌, ℕ, ◌+◌, ◌≤◌, eqb, ltb, length, get_or}
 use Rattle.std.proofs.Common.{sym, subst, arith, length-append, lt-ltb}
 use Rattle.std.proofs.Math.Option.{Option, none, some}
 use Rattle.rules.specs.Tree.{Name, Tree, Assignop, Binop, Unop, Expr, Block}
@@ -7,13 +7,13 @@ use Rattle.rules.specs.Tree.{And, Or, Add, Sub, Mul, Div, Mod, Pow, Eq, Ne, Le, 
 use Rattle.rules.specs.Tree.{Neg, Not, Abs, Sqrt, Fact, Sin, Cos, Tan, Asin, Acos, Atan}
 use Rattle.rules.specs.Tree.{Plain, AddTo, SubTo, MulTo, DivTo, ModTo, PowTo}
 use Rattle.rules.specs.Tree.{binop, unop, ident, number, string, goto, ite, assign, end}
-use Rattle.rules.specs.Constants.{mark}
+use Rattle.rules.specs.Constants.{mark, mostChars}
 use Rattle.rules.specs.Tables.{Counts, nameFits}
 use Rattle.rules.specs.CodegenData.{CodegenData, scoped, bindName}
 use Rattle.rules.specs.Operators.{getVariable, copyValreg, makeTruthy, numberify, applyBinop, applyUnop, codegenIncdec}
 use Rattle.rules.specs.Annotate.{codegenFromExpr, assignBy, codegenFromAssign, condition, lineNumber, annotateStmts, annotateLines, fresh, annotate}
 use Rattle.rules.specs.Lowered.{Options, nameWord, protects, nameWords, spans, texts}
-use Rattle.rules.specs.Demand.{All}
+use Rattle.rules.specs.Preservation.{All}
 use Rattle.bounds.specs.Room.{NameBelow}
 use Rattle.bounds.specs.Limits.{ShortExpr}
 use Rattle.bounds.specs.LimitsTree.{ShortBlock}
@@ -74,7 +74,7 @@ assigned-strings PowTo v e g = refl
 -- ---- short strings
 
 abbrev Short : List ℕ → Type 0
-Short t = length t < 128
+Short t = length t ≤ mostChars
 
 abbrev pub ShortAll : CodegenData → Type 0
 ShortAll g = All Short g.strings
@@ -146,20 +146,20 @@ spans-from P p [] h k = tt
 spans-from P p (t ∷ ts) h k =
     (record { inside = omega (arith, length-append t (texts ts)); short = h.0 }, spans-from P (p + length t) ts h.1 (omega (arith, length-append t (texts ts))))
 
-pub spans_fit : (ts : List (List ℕ)) → All Short ts → All (SpanFit (length (texts ts))) (spans 0 ts)
-spans_fit ts h = spans-from (length (texts ts)) 0 ts h (omega arith)
+pub spans-fit : (ts : List (List ℕ)) → All Short ts → All (SpanFit (length (texts ts))) (spans 0 ts)
+spans-fit ts h = spans-from (length (texts ts)) 0 ts h (omega arith)
 
 -- ---- names
 
-word_fits : (u : Counts) (b : Bool) (v : Option ℕ) → NameBelow u.values v → nameFits u (nameWord b v) ≡ true
+word-fits : (u : Counts) (b : Bool) (v : Option ℕ) → NameBelow u.values v → nameFits u (nameWord b v) ≡ true
 unfolding nameFits nameWord
-word_fits u true (some n) h = or_right (eqb n mark) (ltb n u.values) (lt-ltb n u.values h)
-word_fits u true none h = refl
-word_fits u false (some n) h = refl
-word_fits u false none h = refl
+word-fits u true (some n) h = or_right (eqb n mark) (ltb n u.values) (lt-ltb n u.values h)
+word-fits u true none h = refl
+word-fits u false (some n) h = refl
+word-fits u false none h = refl
 
 pub names-fit : (u : Counts) (o : Options) (ns : List Name) (vs : List (Option ℕ)) → All (NameBelow u.values) vs → All (λ n. nameFits u n ≡ true) (nameWords o ns vs)
 unfolding nameWords
 names-fit u o [] vs h = tt
 names-fit u o (n ∷ ns) [] h = tt
-names-fit u o (n ∷ ns) (v ∷ vs) h = (word_fits u (protects o n.isGlobal) v h.0, names-fit u o ns vs h.1)
+names-fit u o (n ∷ ns) (v ∷ vs) h = (word-fits u (protects o n.isGlobal) v h.0, names-fit u o ns vs h.1)

@@ -17,8 +17,8 @@ use Rattle.rules.specs.Reading.{script}
 use Rattle.rules.specs.Clean.{renIns, ren, keep, rank, cleanSections, cleaned}
 use Rattle.rules.specs.Combine.{without, joined, combineAt, combineSections, combined}
 use Rattle.rules.specs.Lowered.{Options, texts, lowered, finished}
-use Rattle.rules.specs.Demand.{All, RegistersBelow}
-use Rattle.machines.specs.Ranks.{clean_ready}
+use Rattle.rules.specs.Preservation.{All, RegistersBelow}
+use Rattle.machines.specs.Ranks.{clean-ready}
 use Rattle.joins.specs.Along.{Ready, behind-lines, combine-along, combine-ready}
 use Rattle.joins.specs.Pairs.{Pair}
 use Rattle.joins.specs.Joins.{first-in, second-in, length-join}
@@ -26,15 +26,15 @@ use Rattle.machines.specs.Lowered.{lower-fixed, lower-starts}
 use Rattle.machines.specs.FinishedCode.{lower-good, clean-good, combined-good}
 use Rattle.bounds.specs.Room.{Room, roomOf, NameBelow}
 use Rattle.bounds.specs.Own.{annotate-made}
-use Rattle.bounds.specs.Stay.{strings-stay, numbers_stay, good-for, lowered-sections, script-lines}
-use Rattle.bounds.specs.Lengths.{length-spans}
+use Rattle.bounds.specs.Stay.{strings-stay, numbers-stay, good-for, lowered-sections, script-lines}
+use Rattle.laws.specs.Texts.{length-spans}
 use Rattle.bounds.specs.LimitsTree.{Limits, limits}
 use Rattle.bounds.specs.Estimate.{codeLen, code-length, sections-length}
 use Rattle.bounds.specs.Bounds.{Small, small}
 use Rattle.machines.specs.Fits.{Counted, SpanFit, MachineFit, encoded-fits}
 use Rattle.machines.specs.Targets.{Aims, lower-aims, clean-aims, clean-length}
-use Rattle.machines.specs.Shape.{combine-aims, combine-inner, lower-later, clean-inner, keep_some}
-use Rattle.machines.specs.Texts.{annotate-short, spans_fit, names-fit}
+use Rattle.machines.specs.Shape.{combine-aims, combine-inner, lower-later, clean-inner, keep-some}
+use Rattle.machines.specs.Texts.{annotate-short, spans-fit, names-fit}
 use Rattle.machines.specs.Held.{SectsFit, machine-fit}
 use Rattle.laws.specs.Sections.{keep-length}
 
@@ -73,9 +73,9 @@ pub record Sizes (L n c : ℕ) (m : List SectionCode) : Type 0 where
   pub sections : length m ≤ n
   pub instrs : codeLen m ≤ c
 
-counts_step : (L : ℕ) (pos : 0 < L) (n c : ℕ) (m : List SectionCode) → Ready L m → (i j : ℕ) → Pair m i j → Sizes L n c m → Sizes L n c (combineAt m i j)
+counts-step : (L : ℕ) (pos : 0 < L) (n c : ℕ) (m : List SectionCode) → Ready L m → (i j : ℕ) → Pair m i j → Sizes L n c m → Sizes L n c (combineAt m i j)
 unfolding combineAt
-counts_step L pos n c m r i j pr k =
+counts-step L pos n c m r i j pr k =
     let b : (i < length m) × (j < length m) × (L ≤ j) = (first-in m i j pr, second-in m i j pr, behind-lines L m r i j pr) in
     let l = length-join m i j pr in
     let J = joined (get_or m i absent) (get_or m j absent) in
@@ -127,10 +127,10 @@ module _ (o : Options) (t : Tree) (lim : Limits t) where
   pos = omega (arith, script-lines o t, lim.some-lines)
 
   pub ready : Ready (length (script t)) (cleanSections (sectionsOf (script t)))
-  ready = clean_ready (length (script t)) pos (sectionsOf (script t)) (lower-fixed (script t) pos) (lower-starts (script t) pos)
+  ready = clean-ready (length (script t)) pos (sectionsOf (script t)) (lower-fixed (script t) pos) (lower-starts (script t) pos)
 
   some-kept : 0 < length (keep (sectionsOf (script t)))
-  some-kept = omega (arith, keep_some (script t), pos)
+  some-kept = omega (arith, keep-some (script t), pos)
 
   module _ (u : Counts) (r : Room (roomOf (annotate t).1) u) where
     lower-fit : SectsFit (length (script t)) u (sectionsOf (script t))
@@ -171,16 +171,16 @@ module _ (o : Options) (t : Tree) (lim : Limits t) where
   clean-counts : Sizes (length (script t)) (length (sectionsOf (script t))) (codeLen (sectionsOf (script t))) (cleanSections (sectionsOf (script t)))
   clean-counts =
       let m = sectionsOf (script t) in
-      record { starts = omega (arith, keep_some (script t), clean-length m); sections = omega (arith, keep-length m, clean-length m); instrs = clean-len m }
+      record { starts = omega (arith, keep-some (script t), clean-length m); sections = omega (arith, keep-length m, clean-length m); instrs = clean-len m }
 
   pub finish-counts : Sizes (length (script t)) (length (sectionsOf (script t))) (codeLen (sectionsOf (script t))) (combineSections (cleanSections (sectionsOf (script t))))
   finish-counts =
       let m = sectionsOf (script t) in
-      combine-along (length (script t)) (Sizes (length (script t)) (length m) (codeLen m)) (counts_step (length (script t)) pos (length m) (codeLen m)) (cleanSections m) ready clean-counts
+      combine-along (length (script t)) (Sizes (length (script t)) (length m) (codeLen m)) (counts-step (length (script t)) pos (length m) (codeLen m)) (cleanSections m) ready clean-counts
 
-  pub lines_are : (lowered o t).lines ≡ length (script t)
+  pub lines-are : (lowered o t).lines ≡ length (script t)
   unfolding lowered
-  lines_are = (annotate-made t).long ∙ sym (script-lines o t)
+  lines-are = (annotate-made t).long ∙ sym (script-lines o t)
 
   -- A machine with the lowered one's registers, strings and names, and with sections that fit.
   record Same (w : Machine) : Type 0 where
@@ -195,14 +195,14 @@ module _ (o : Options) (t : Tree) (lim : Limits t) where
   unfolding countsOf lowered
   the-room w s =
       record {
-        numbers = omega (arith, ap length s.numbers, ap length (numbers_stay o t));
+        numbers = omega (arith, ap length s.numbers, ap length (numbers-stay o t));
         strings = omega (arith, ap length s.strings, ap length (strings-stay o t), length-spans 0 (annotate t).1.strings);
         values = omega (arith, s.values);
       }
 
   the-spans : All (SpanFit (length (lowered o t).pool)) (lowered o t).strings
   unfolding lowered
-  the-spans = subst (All (SpanFit (length (texts (annotate t).1.strings)))) (sym (strings-stay o t)) (spans_fit (annotate t).1.strings (annotate-short t lim.short))
+  the-spans = subst (All (SpanFit (length (texts (annotate t).1.strings)))) (sym (strings-stay o t)) (spans-fit (annotate t).1.strings (annotate-short t lim.short))
 
   the-names : (u : Counts) → u.values ≡ (lowered o t).values → All (λ n. nameFits u n ≡ true) (lowered o t).names
   unfolding lowered
@@ -213,10 +213,10 @@ module _ (o : Options) (t : Tree) (lim : Limits t) where
   unfolding countsOf
   all-fits sm w s f c =
       let c' : Sizes (lowered o t).lines (length (lowered o t).sections) (codeLen (lowered o t).sections) w.sections =
-      subst (λ (l : List SectionCode). Sizes (lowered o t).lines (length l) (codeLen l) w.sections) (sym (lowered-sections o t)) (subst (λ (n : ℕ). Sizes n (length (sectionsOf (script t))) (codeLen (sectionsOf (script t))) w.sections) (sym lines_are) c)
+      subst (λ (l : List SectionCode). Sizes (lowered o t).lines (length l) (codeLen l) w.sections) (sym (lowered-sections o t)) (subst (λ (n : ℕ). Sizes n (length (sectionsOf (script t))) (codeLen (sectionsOf (script t))) w.sections) (sym lines-are) c)
       in
       let h : Shared (lowered o t) w = record { lines = s.lines; numbers = ap length s.numbers; strings = ap length s.strings; pool = ap length s.pool; names = ap length s.names; values = s.values } in
-      machine-fit w (counted (lowered o t) w sm h c') (subst (λ (n : ℕ). SectsFit n (countsOf w) w.sections) (sym (s.lines ∙ lines_are)) f) (subst (λ (p : List ℕ). All (SpanFit (length p)) w.strings) (sym s.pool) (subst (All (SpanFit (length (lowered o t).pool))) (sym s.strings) the-spans)) (subst (All (λ n. nameFits (countsOf w) n ≡ true)) (sym s.names) (the-names (countsOf w) s.values))
+      machine-fit w (counted (lowered o t) w sm h c') (subst (λ (n : ℕ). SectsFit n (countsOf w) w.sections) (sym (s.lines ∙ lines-are)) f) (subst (λ (p : List ℕ). All (SpanFit (length p)) w.strings) (sym s.pool) (subst (All (SpanFit (length (lowered o t).pool))) (sym s.strings) the-spans)) (subst (All (λ n. nameFits (countsOf w) n ≡ true)) (sym s.names) (the-names (countsOf w) s.values))
 
   lowered-same : Same (lowered o t)
   lowered-same = record { lines = refl; numbers = refl; strings = refl; pool = refl; values = refl; names = refl }

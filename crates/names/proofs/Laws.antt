@@ -11,13 +11,13 @@ use Rattle.rules.specs.Constants.{flagBits, nameLengthBits, charBits}
 use Rattle.rules.specs.Refusal.{equalNames}
 use Rattle.rules.specs.Bits.{Res, refused, ok, spelled, isOne}
 use Rattle.rules.specs.Tree.{Name}
-use Rattle.rules.specs.Parse.{At, name, names, known, same_name, sameChars, bits}
+use Rattle.rules.specs.Parse.{At, name, names, known, sameName, sameChars, bits}
 use Rattle.bits.specs.Reads.{Gives, Fine, Took, Skips, at, charsAt}
 use Rattle.bits.specs.declared.Step.{Step}
 use Rattle.bits.specs.declared.Step.TheVariants.{Next, Refused}
 use Rattle.bits.specs.declared.Cursor.{Cursor}
-use Rattle.names.specs.Names.{headerBits, charsOf, name_at, nextName, names_at, end_at, Named, NamedAll, NamesMid, NamesOne}
-use Rattle.bits.proofs.Bits.{spelled-lt}
+use Rattle.names.specs.Names.{headerBits, charsOf, nameAt, nextName, namesAt, endAt, Named, NamedAll, NamesMid, NamesOne}
+use Rattle.laws.specs.Texts.{spelled-lt}
 use Rattle.bits.proofs.Bytes.{spelled-append}
 use Rattle.bits.proofs.Gives.{then, stop, done, passes, fails, spells, after}
 
@@ -29,9 +29,9 @@ and-false : (b : Bool) → (b && false) ≡ false
 and-false true = refl
 and-false false = refl
 
-beq_same : (b : Bool) → beq b b ≡ true
-beq_same true = refl
-beq_same false = refl
+beq-same : (b : Bool) → beq b b ≡ true
+beq-same true = refl
+beq-same false = refl
 
 flags-differ : (f g : ℕ) → f < 2 → g < 2 → (f ≡ g → ⊥) → beq (isOne f) (isOne g) ≡ false
 unfolding isOne
@@ -43,35 +43,35 @@ flags-differ (suc zero) (suc zero) a b h = absurd (h refl)
 flags-differ (suc zero) (suc (suc g)) a b h = absurd (omega arith)
 flags-differ (suc (suc f)) g a b h = absurd (omega arith)
 
-lengths_differ : (s : List ℕ) (m n p q : ℕ) → (m ≡ n → ⊥) → sameChars (charsAt s m p) (charsAt s n q) ≡ false
+lengths-differ : (s : List ℕ) (m n p q : ℕ) → (m ≡ n → ⊥) → sameChars (charsAt s m p) (charsAt s n q) ≡ false
 unfolding charsAt sameChars
-lengths_differ s zero zero p q h = absurd (h refl)
-lengths_differ s zero (suc n) p q h = refl
-lengths_differ s (suc m) zero p q h = refl
-lengths_differ s (suc m) (suc n) p q h = rw (lengths_differ s m n (p + charBits) (q + charBits) (λ e. h (ap suc e))) (and-false (eqb (spelled s charBits p) (spelled s charBits q)))
+lengths-differ s zero zero p q h = absurd (h refl)
+lengths-differ s zero (suc n) p q h = refl
+lengths-differ s (suc m) zero p q h = refl
+lengths-differ s (suc m) (suc n) p q h = rw (lengths-differ s m n (p + charBits) (q + charBits) (λ e. h (ap suc e))) (and-false (eqb (spelled s charBits p) (spelled s charBits q)))
 
-pub same_length : (s : List ℕ) (p q : ℕ) → spelled s headerBits p ≡ spelled s headerBits q → spelled s nameLengthBits (p + flagBits) ≡ spelled s nameLengthBits (q + flagBits)
-same_length s p q e = omega (arith, head s p, head s q, spelled-lt s nameLengthBits (p + flagBits), spelled-lt s nameLengthBits (q + flagBits))
+pub same-length : (s : List ℕ) (p q : ℕ) → spelled s headerBits p ≡ spelled s headerBits q → spelled s nameLengthBits (p + flagBits) ≡ spelled s nameLengthBits (q + flagBits)
+same-length s p q e = omega (arith, head s p, head s q, spelled-lt s nameLengthBits (p + flagBits), spelled-lt s nameLengthBits (q + flagBits))
 
-pub same_first : (s : List ℕ) (p q : ℕ) → spelled s headerBits p ≡ spelled s headerBits q → sameChars (charsAt s (spelled s nameLengthBits (p + flagBits) + 1) (p + headerBits)) (charsAt s (spelled s nameLengthBits (p + flagBits) + 1) (q + headerBits)) ≡ same_name (name_at s p) (name_at s q)
-unfolding same_name name_at charsOf
-same_first s p q e =
+pub same-first : (s : List ℕ) (p q : ℕ) → spelled s headerBits p ≡ spelled s headerBits q → sameChars (charsAt s (spelled s nameLengthBits (p + flagBits) + 1) (p + headerBits)) (charsAt s (spelled s nameLengthBits (p + flagBits) + 1) (q + headerBits)) ≡ sameName (nameAt s p) (nameAt s q)
+unfolding sameName nameAt charsOf
+same-first s p q e =
     let a : spelled s flagBits p ≡ spelled s flagBits q = omega (arith, head s p, head s q, spelled-lt s nameLengthBits (p + flagBits), spelled-lt s nameLengthBits (q + flagBits)) in
     let b : spelled s nameLengthBits (p + flagBits) ≡ spelled s nameLengthBits (q + flagBits) = omega (arith, head s p, head s q, spelled-lt s nameLengthBits (p + flagBits), spelled-lt s nameLengthBits (q + flagBits)) in
-    rw (a, ← b, add-one, beq_same (isOne (spelled s flagBits q)))
+    rw (a, ← b, add-one, beq-same (isOne (spelled s flagBits q)))
 
-pub differ-first : (s : List ℕ) (p q : ℕ) → (spelled s headerBits p ≡ spelled s headerBits q → ⊥) → false ≡ same_name (name_at s p) (name_at s q)
-unfolding same_name name_at charsOf
+pub differ-first : (s : List ℕ) (p q : ℕ) → (spelled s headerBits p ≡ spelled s headerBits q → ⊥) → false ≡ sameName (nameAt s p) (nameAt s q)
+unfolding sameName nameAt charsOf
 differ-first s p q h = by (eqb (spelled s nameLengthBits (p + flagBits)) (spelled s nameLengthBits (q + flagBits))) refl
   where
-    by : (b : Bool) → eqb (spelled s nameLengthBits (p + flagBits)) (spelled s nameLengthBits (q + flagBits)) ≡ b → false ≡ same_name (name_at s p) (name_at s q)
+    by : (b : Bool) → eqb (spelled s nameLengthBits (p + flagBits)) (spelled s nameLengthBits (q + flagBits)) ≡ b → false ≡ sameName (nameAt s p) (nameAt s q)
     by true e =
         let l : spelled s nameLengthBits (p + flagBits) ≡ spelled s nameLengthBits (q + flagBits) = eqb-true _ _ e in
         let f : (spelled s flagBits p ≡ spelled s flagBits q → ⊥) = λ g. h (head s p ∙ omega arith ∙ sym (head s q)) in
         rw (flags-differ (spelled s flagBits p) (spelled s flagBits q) (spelled-lt s flagBits p) (spelled-lt s flagBits q) f)
     by false e =
         let l : (spelled s nameLengthBits (p + flagBits) ≡ spelled s nameLengthBits (q + flagBits) → ⊥) = eqb-false _ _ e in
-        rw (lengths_differ s (suc (spelled s nameLengthBits (p + flagBits))) (suc (spelled s nameLengthBits (q + flagBits))) (p + headerBits) (q + headerBits) (λ g. l (omega arith))) (sym (and-false (beq (isOne (spelled s flagBits p)) (isOne (spelled s flagBits q)))))
+        rw (lengths-differ s (suc (spelled s nameLengthBits (p + flagBits))) (suc (spelled s nameLengthBits (q + flagBits))) (p + headerBits) (q + headerBits) (λ g. l (omega arith))) (sym (and-false (beq (isOne (spelled s flagBits p)) (isOne (spelled s flagBits q)))))
 
 -- characters compared one by one
 pub chars-more : (s : List ℕ) (n a b : ℕ) → 0 < n → spelled s charBits a ≡ spelled s charBits b → sameChars (charsAt s (n - 1) (a + charBits)) (charsAt s (n - 1) (b + charBits)) ≡ sameChars (charsAt s n a) (charsAt s n b)
@@ -90,18 +90,18 @@ chars-end s zero a b h = refl
 chars-end s (suc n) a b h = absurd (omega arith)
 
 -- names compared one by one
-pub known-yes : (s : List ℕ) (p k q : ℕ) → 0 < k → true ≡ same_name (name_at s p) (name_at s q) → true ≡ known (name_at s p) (names_at s k q)
-unfolding known names_at
+pub known-yes : (s : List ℕ) (p k q : ℕ) → 0 < k → true ≡ sameName (nameAt s p) (nameAt s q) → true ≡ known (nameAt s p) (namesAt s k q)
+unfolding known namesAt
 known-yes s p zero q h e = absurd (omega arith)
 known-yes s p (suc k) q h e = rw (← e, known)
 
-pub known-no : (s : List ℕ) (p k q : ℕ) → 0 < k → false ≡ same_name (name_at s p) (name_at s q) → known (name_at s p) (names_at s (k - 1) (nextName s q)) ≡ known (name_at s p) (names_at s k q)
-unfolding known names_at
+pub known-no : (s : List ℕ) (p k q : ℕ) → 0 < k → false ≡ sameName (nameAt s p) (nameAt s q) → known (nameAt s p) (namesAt s (k - 1) (nextName s q)) ≡ known (nameAt s p) (namesAt s k q)
+unfolding known namesAt
 known-no s p zero q h e = absurd (omega arith)
 known-no s p (suc k) q h e = rw (sub-one, ← e, known)
 
-pub known-end : (s : List ℕ) (p k q : ℕ) → k ≤ 0 → false ≡ known (name_at s p) (names_at s k q)
-unfolding known names_at
+pub known-end : (s : List ℕ) (p k q : ℕ) → k ≤ 0 → false ≡ known (nameAt s p) (namesAt s k q)
+unfolding known namesAt
 known-end s p zero q h = refl
 known-end s p (suc k) q h = absurd (omega arith)
 
@@ -110,25 +110,25 @@ pub next-gt : (s : List ℕ) (p : ℕ) → p + headerBits + charBits ≤ nextNam
 unfolding nextName charsOf
 next-gt s p = omega arith
 
-pub end_ge : (s : List ℕ) (k p : ℕ) → p ≤ end_at s k p
-unfolding end_at
-end_ge s zero p = omega arith
-end_ge s (suc k) p = let h = end_ge s k (nextName s p) in let g = next-gt s p in omega arith
+pub end-ge : (s : List ℕ) (k p : ℕ) → p ≤ endAt s k p
+unfolding endAt
+end-ge s zero p = omega arith
+end-ge s (suc k) p = let h = end-ge s k (nextName s p) in let g = next-gt s p in omega arith
 
-pub end_more : (s : List ℕ) (k p : ℕ) → 0 < k → end_at s (k - 1) (nextName s p) ≡ end_at s k p
-unfolding end_at
-end_more s zero p h = absurd (omega arith)
-end_more s (suc k) p h = rw sub-one
+pub end-more : (s : List ℕ) (k p : ℕ) → 0 < k → endAt s (k - 1) (nextName s p) ≡ endAt s k p
+unfolding endAt
+end-more s zero p h = absurd (omega arith)
+end-more s (suc k) p h = rw sub-one
 
-pub end_snoc : (s : List ℕ) (k p : ℕ) → end_at s (suc k) p ≡ nextName s (end_at s k p)
-unfolding end_at
-end_snoc s zero p = refl
-end_snoc s (suc k) p = end_snoc s k (nextName s p)
+pub end-snoc : (s : List ℕ) (k p : ℕ) → endAt s (suc k) p ≡ nextName s (endAt s k p)
+unfolding endAt
+end-snoc s zero p = refl
+end-snoc s (suc k) p = end-snoc s k (nextName s p)
 
-names-snoc : (s : List ℕ) (k p : ℕ) → names_at s (suc k) p ≡ names_at s k p ++ (name_at s (end_at s k p) ∷ [])
-unfolding names_at end_at
+names-snoc : (s : List ℕ) (k p : ℕ) → namesAt s (suc k) p ≡ namesAt s k p ++ (nameAt s (endAt s k p) ∷ [])
+unfolding namesAt endAt
 names-snoc s zero p = refl
-names-snoc s (suc k) p = ap (λ (l : List Name). name_at s p ∷ l) (names-snoc s k (nextName s p))
+names-snoc s (suc k) p = ap (λ (l : List Name). nameAt s p ∷ l) (names-snoc s k (nextName s p))
 
 -- ---- a name and the names behind it
 
@@ -153,15 +153,15 @@ names-end zero ys h = done
 names-end (suc l) ys h = absurd (omega arith)
 
 module _ {n : ℕ} {s : List ℕ} {c d : Cursor} {k : ℕ} (m : NamesMid n s c d k) where
-  pub names_more : {v : ℕ} {e : Cursor} → k < n → Named s d v e → known (name_at s d.pos) (names_at s k c.pos) ≡ false → NamesMid n s c e (k + 1)
-  names_more {e = e} h x z =
+  pub names-more : {v : ℕ} {e : Cursor} → k < n → Named s d v e → known (nameAt s d.pos) (namesAt s k c.pos) ≡ false → NamesMid n s c e (k + 1)
+  names-more {e = e} h x z =
       let v = m.moved in
       let w = x.moved in
       let i : n - (k + 1) ≡ n - k - 1 = omega arith in
-      let j : names_at s (k + 1) c.pos ≡ names_at s k c.pos ++ (name_at s d.pos ∷ []) = rw (add-one, m.place) (names-snoc s k c.pos) in
+      let j : namesAt s (k + 1) c.pos ≡ namesAt s k c.pos ++ (nameAt s d.pos ∷ []) = rw (add-one, m.place) (names-snoc s k c.pos) in
       record {
         goes = λ res g. m.goes res (names-step (n - k) _ (omega arith) x.reads z (rw (i, j) at g));
-        place = x.place ∙ rw (m.place, add-one) (sym (end_snoc s k c.pos));
+        place = x.place ∙ rw (m.place, add-one) (sym (end-snoc s k c.pos));
         moved = omega arith;
         fine = x.fine;
       }
@@ -169,22 +169,22 @@ module _ {n : ℕ} {s : List ℕ} {c d : Cursor} {k : ℕ} (m : NamesMid n s c d
   pub names-stop : {x : ℕ} → k < n → Gives name s (at d) (refused x) → Gives (names n []) s (at c) (refused x)
   names-stop h g = m.goes _ (names-short (n - k) _ (omega arith) g)
 
-  pub names-old : {v : ℕ} {e : Cursor} → k < n → Named s d v e → known (name_at s d.pos) (names_at s k c.pos) ≡ true → Gives (names n []) s (at c) (refused equalNames)
+  pub names-old : {v : ℕ} {e : Cursor} → k < n → Named s d v e → known (nameAt s d.pos) (namesAt s k c.pos) ≡ true → Gives (names n []) s (at c) (refused equalNames)
   names-old h x z = m.goes _ (names-twice (n - k) _ (omega arith) x.reads z)
 
   pub names-done : n ≤ k → k ≤ n → NamedAll n s c 0 d
   names-done h l =
       let e : n ≡ k = omega arith in
-      let f : names_at s n c.pos ≡ names_at s k c.pos = ap (λ (x : ℕ). names_at s x c.pos) e in
-      record { reads = rw f (m.goes _ (names-end (n - k) (names_at s k c.pos) (omega arith))); valueless = refl; place = m.place ∙ ap (λ (x : ℕ). end_at s x c.pos) (sym e); moved = m.moved; fine = m.fine }
+      let f : namesAt s n c.pos ≡ namesAt s k c.pos = ap (λ (x : ℕ). namesAt s x c.pos) e in
+      record { reads = rw f (m.goes _ (names-end (n - k) (namesAt s k c.pos) (omega arith))); valueless = refl; place = m.place ∙ ap (λ (x : ℕ). endAt s x c.pos) (sym e); moved = m.moved; fine = m.fine }
 
 pub names-start : (n : ℕ) (s : List ℕ) (c : Cursor) → Fine s c → NamesMid n s c c 0
-unfolding names_at end_at
+unfolding namesAt endAt
 names-start n s c f = let e : n - 0 ≡ n = omega arith in record { goes = λ res g. rw e at g; place = refl; moved = omega arith; fine = f }
 
 -- a flag, a length and characters are a name
 pub one-built : {s : List ℕ} {c d e : Cursor} {f l : ℕ} → Took (bits flagBits) s c 0 0 (2 ^ flagBits) f d → Took (bits nameLengthBits) s d 0 0 (2 ^ nameLengthBits) l e → (st : Step) → Skips (l + 1) s e st → NamesOne s c st
-unfolding name name_at nextName charsOf
+unfolding name nameAt nextName charsOf
 one-built {s = s} {c = c} {d = d} {e = e} {f = f} {l = l} b x (Next v g) u =
     let h = u.here in
     let p = spells b.reads in
@@ -207,5 +207,5 @@ one-built {s = s} {c = c} {d = d} {e = e} {f = f} {l = l} b x (Next v g) u =
     }
 one-built b x (Refused k) u = record { here = then _ b.reads (then _ x.reads (stop _ (rw add-one at u.here))) }
 
-pub next-in : (s : List ℕ) (k q : ℕ) → 0 < k → nextName s q ≤ end_at s k q
-next-in s k q h = let e = end_more s k q h in let g = end_ge s (k - 1) (nextName s q) in omega arith
+pub next-in : (s : List ℕ) (k q : ℕ) → 0 < k → nextName s q ≤ endAt s k q
+next-in s k q h = let e = end-more s k q h in let g = end-ge s (k - 1) (nextName s q) in omega arith

@@ -1,6 +1,6 @@
 -- The names of a file, where they stand, and what the steps that read them give. Nothing is assumed.
 use Rattle.std.specs.Prelude.{◌≡◌, List, [], ◌∷◌, ℕ, zero, suc, ◌+◌, ◌-◌, ◌*◌}
-use Rattle.rules.specs.Constants.{head_bits, nameBits, flagBits, nameLengthBits, charBits}
+use Rattle.rules.specs.Constants.{headBits, nameBits, flagBits, nameLengthBits, charBits}
 use Rattle.rules.specs.Bits.{Res, refused, ok, spelled, isOne}
 use Rattle.rules.specs.Tree.{Name}
 use Rattle.rules.specs.Parse.{At, name, names}
@@ -11,7 +11,7 @@ use Rattle.bits.specs.declared.Step.TheVariants.{Next, Refused}
 
 -- where the names of a file begin: behind form, lines and their own count
 abbrev pub firstName : ℕ
-firstName = 2 * head_bits + nameBits
+firstName = 2 * headBits + nameBits
 
 -- a name's flag and length together
 abbrev pub headerBits : ℕ
@@ -22,25 +22,25 @@ unfoldable pub charsOf : List ℕ → ℕ → ℕ
 charsOf s p = suc (spelled s nameLengthBits (p + flagBits))
 
 -- the name at p
-unfoldable pub name_at : List ℕ → ℕ → Name
-name_at s p = record { isGlobal = isOne (spelled s flagBits p); chars = charsAt s (charsOf s p) (p + headerBits) }
+unfoldable pub nameAt : List ℕ → ℕ → Name
+nameAt s p = record { isGlobal = isOne (spelled s flagBits p); chars = charsAt s (charsOf s p) (p + headerBits) }
 
 -- where the name at p ends
 unfoldable pub nextName : List ℕ → ℕ → ℕ
 nextName s p = p + headerBits + charBits * charsOf s p
 
 -- the k names from p on, and where they end
-unfoldable pub names_at : List ℕ → ℕ → ℕ → List Name
-names_at s zero p = []
-names_at s (suc k) p = name_at s p ∷ names_at s k (nextName s p)
+unfoldable pub namesAt : List ℕ → ℕ → ℕ → List Name
+namesAt s zero p = []
+namesAt s (suc k) p = nameAt s p ∷ namesAt s k (nextName s p)
 
-unfoldable pub end_at : List ℕ → ℕ → ℕ → ℕ
-end_at s zero p = p
-end_at s (suc k) p = end_at s k (nextName s p)
+unfoldable pub endAt : List ℕ → ℕ → ℕ → ℕ
+endAt s zero p = p
+endAt s (suc k) p = endAt s k (nextName s p)
 
 -- a name is read: the step has no value
 pub record Named (s : List ℕ) (c : Cursor) (v : ℕ) (c' : Cursor) : Type 0 where
-  pub reads : Gives name s (at c) (ok (name_at s c.pos, at c'))
+  pub reads : Gives name s (at c) (ok (nameAt s c.pos, at c'))
   pub valueless : v ≡ 0
   pub place : c'.pos ≡ nextName s c.pos
   pub moved : Moved 0 0 c c'
@@ -55,9 +55,9 @@ pub record NamesOne (s : List ℕ) (c : Cursor) (st : Step) : Type 0 where
 
 -- n names are read
 pub record NamedAll (n : ℕ) (s : List ℕ) (c : Cursor) (v : ℕ) (c' : Cursor) : Type 0 where
-  pub reads : Gives (names n []) s (at c) (ok (names_at s n c.pos, at c'))
+  pub reads : Gives (names n []) s (at c) (ok (namesAt s n c.pos, at c'))
   pub valueless : v ≡ 0
-  pub place : c'.pos ≡ end_at s n c.pos
+  pub place : c'.pos ≡ endAt s n c.pos
   pub moved : Moved 0 0 c c'
   pub fine : Fine s c'
 
@@ -70,7 +70,7 @@ pub record NamesAll (n : ℕ) (s : List ℕ) (c : Cursor) (st : Step) : Type 0 w
 
 -- midway: k of n names are read, and c' stands behind them
 pub record NamesMid (n : ℕ) (s : List ℕ) (c c' : Cursor) (k : ℕ) : Type 0 where
-  pub goes : (res : Res (List Name × At)) → Gives (names (n - k) (names_at s k c.pos)) s (at c') res → Gives (names n []) s (at c) res
-  pub place : c'.pos ≡ end_at s k c.pos
+  pub goes : (res : Res (List Name × At)) → Gives (names (n - k) (namesAt s k c.pos)) s (at c') res → Gives (names n []) s (at c) res
+  pub place : c'.pos ≡ endAt s k c.pos
   pub moved : Moved 0 0 c c'
   pub fine : Fine s c'

@@ -5,9 +5,9 @@
 
 ghost use Rattle.std.specs.Prelude.{◌≡◌, ◌≤◌, ◌<◌, ◌*◌, ◌+◌, length};
 ghost use Rattle.rules.specs.Constants.{mostBytes, byteBits};
-ghost use Rattle.rules.specs.Parse.{same_name, known as knownS};
+ghost use Rattle.rules.specs.Parse.{sameName, known as knownS};
 ghost use Rattle.bits.specs.Reads.{Fine};
-ghost use Rattle.names.specs.Names.{headerBits, name_at, nextName, names_at, end_at, NamesOne, NamesAll};
+ghost use Rattle.names.specs.Names.{headerBits, nameAt, nextName, namesAt, endAt, NamesOne, NamesAll};
 
 use bits::{Cursor, Step};
 use params::limits::{CHAR_BITS, FLAG_BITS, NAME_LENGTH_BITS};
@@ -26,10 +26,10 @@ pub fn after(s: &[u8], q: usize) -> usize
 }
 
 // Is the name at q global?
-#[tactic(auto, unfolding(crate::specs::Names::name_at, rules::specs::Bits::isOne))]
+#[tactic(auto, unfolding(crate::specs::Names::nameAt, rules::specs::Bits::isOne))]
 pub fn is_global(s: &[u8], q: usize) -> bool
     requires { (length s.now ≤ mostBytes) × (q + headerBits ≤ byteBits * length s.now) }
-    ensures { result ≡ (name_at s.now q).isGlobal }
+    ensures { result ≡ (nameAt s.now q).isGlobal }
 {
     bits::peek(s, q, FLAG_BITS) == 1
 }
@@ -38,7 +38,7 @@ pub fn is_global(s: &[u8], q: usize) -> bool
 #[tactic(auto, unfolding(crate::specs::Names::nextName, crate::specs::Names::charsOf))]
 fn same(s: &[u8], p: usize, q: usize) -> bool
     requires { (length s.now ≤ mostBytes) × ((nextName s.now p ≤ byteBits * length s.now) × (nextName s.now q ≤ byteBits * length s.now)) }
-    ensures { result ≡ same_name (name_at s.now p) (name_at s.now q) }
+    ensures { result ≡ sameName (nameAt s.now p) (nameAt s.now q) }
 {
     if bits::peek(s, p, HEADER_BITS) != bits::peek(s, q, HEADER_BITS) {
         return false;
@@ -59,8 +59,8 @@ fn same(s: &[u8], p: usize, q: usize) -> bool
 
 // Is the name at p among the k names from start on?
 fn known(s: &[u8], start: usize, k: usize, p: usize) -> bool
-    requires { (length s.now ≤ mostBytes) × ((end_at s.now k start ≤ byteBits * length s.now) × (nextName s.now p ≤ byteBits * length s.now)) }
-    ensures { result ≡ knownS (name_at s.now p) (names_at s.now k start) }
+    requires { (length s.now ≤ mostBytes) × ((endAt s.now k start ≤ byteBits * length s.now) × (nextName s.now p ≤ byteBits * length s.now)) }
+    ensures { result ≡ knownS (nameAt s.now p) (namesAt s.now k start) }
 {
     let mut q = start;
     let mut left = k;

@@ -7,7 +7,7 @@ use native.Mathlib.Numerals.{sub-one}
 use Rattle.rules.specs.Constants.{exprKindBits, stmtKindBits}
 use Rattle.rules.specs.Bits.{Res, refused, ok}
 use Rattle.rules.specs.Tree.{Expr, Block}
-use Rattle.rules.specs.Parse.{At, expr, stmt, bits, begin, refuse, exprKinds, stmtKinds, binopOf, unopOf, gotoOf, iteOf, step_of, assignOf}
+use Rattle.rules.specs.Parse.{At, expr, stmt, bits, begin, refuse, exprKinds, stmtKinds, binopOf, unopOf, gotoOf, iteOf, stepOf, assignOf}
 use Rattle.bits.specs.Reads.{Gives, beginR}
 use Rattle.nodes.specs.Builds.{leafR, exprArm, stmtArm}
 use Rattle.bits.proofs.Gives.{then, stop, assoc, inject-refused, not-deep}
@@ -66,7 +66,7 @@ module _ (n d : ℕ) {k : ℕ} {s : List ℕ} {c c1 : At} {res : Res ((Block →
   unfolding stmtArm stmtKinds
   arm-ite e g a = stmt-arm n d k g (rw e a)
 
-  pub arm-incdec : k ≡ 2 → Gives (beginR stmtKindBits d) s c (ok (k, c1)) → Gives (step_of n) s c1 res → Gives (stmt n d) s c res
+  pub arm-incdec : k ≡ 2 → Gives (beginR stmtKindBits d) s c (ok (k, c1)) → Gives (stepOf n) s c1 res → Gives (stmt n d) s c res
   unfolding stmtArm stmtKinds
   arm-incdec e g a = stmt-arm n d k g (rw e a)
 

@@ -3,13 +3,13 @@ use mathlib.Core.Path.{◌≡◌, refl, sym, ap}
 use mathlib.Core.Bool.{Bool}
 use mathlib.Core.List.{List}
 use mathlib.Core.Option.{some}
-use Prim.Native.Nat.{ℕ, zero, suc, ◌+◌, ◌<◌, ◌%◌}
+use Prim.Native.Nat.{ℕ, zero, suc, ◌+◌, ◌<◌}
 use native.Mathlib.Omega.{arith}
 use lib.ListN.{get_or, get_elem?}
 use Rattle.rules.specs.Bits.{isOne}
 use Rattle.rules.specs.Tree.{Assignop, Expr, Block, goto, ite, assign, end}
 use Rattle.rules.specs.Parse.{assignops}
-use Rattle.nodes.specs.Words.{word_of, iteWord, iteKind, gotoKind, stepKind, assignKind}
+use Rattle.nodes.specs.Words.{wordOf, iteWord, iteKind, gotoKind, stepKind, assignKind, kindIn}
 use Rattle.nodes.specs.Holds.{HoldsE, HoldsB, Flag, Lists, at-end, at-goto, at-ite, at-step, at-assign}
 use Rattle.nodes.proofs.Words.{kind-of}
 
@@ -23,7 +23,7 @@ tag (Block.incdec f x s) = 2
 tag (assign x o e s) = 3
 tag end = 4
 
-pub kind-held : {t s : List ℕ} {m n i z : ℕ} {x : Block} → 0 < n → HoldsB t s m n i x z → get_or t i 0 % 16 ≡ tag x + 8
+pub kind-held : {t s : List ℕ} {m n i z : ℕ} {x : Block} → 0 < n → HoldsB t s m n i x z → kindIn (get_or t i 0) ≡ tag x + 8
 unfolding tag
 kind-held h (at-end p q) = absurd (omega arith)
 kind-held h (at-goto p w q e xs) = kind-of _ _ _ _ _ _ _ (omega arith) w
@@ -52,7 +52,7 @@ pub record IsGoto (t s : List ℕ) (m n i : ℕ) (x : Block) (z : ℕ) : Type 0 
   pub last : ℕ
   pub is : x ≡ goto e rest
   pub count : n ≡ k + 1
-  pub word : get_or t i 0 ≡ word_of gotoKind 0 0 0 last 0
+  pub word : get_or t i 0 ≡ wordOf gotoKind 0 0 0 last 0
   pub next : first ≡ i + 1
   pub to : HoldsE t s m first e last
   pub others : HoldsB t s m k last rest z
@@ -104,7 +104,7 @@ pub record IsAssign (t s : List ℕ) (m n i : ℕ) (x : Block) (z : ℕ) : Type 
   pub is : x ≡ assign y o e rest
   pub count : n ≡ k + 1
   pub pick : get_elem? assignops op ≡ some o
-  pub word : get_or t i 0 ≡ word_of assignKind op y 0 last 0
+  pub word : get_or t i 0 ≡ wordOf assignKind op y 0 last 0
   pub known : y < m
   pub next : first ≡ i + 1
   pub value : HoldsE t s m first e last
@@ -126,20 +126,20 @@ seen h (at-ite a b v u p w f q e x y xs) = record { e = _; th = _; el = _; rest 
 seen h (at-step {xs = r} b f x p q g xs) = record { b = b; y = x; rest = _; k = _; last = _; is = ap (λ (y : Bool). Block.incdec y x r) (sym q); count = p; flag = g; others = xs }
 seen h (at-assign x op o p f w k q e xs) = record { y = x; op = op; o = o; e = _; rest = _; k = _; first = _; last = _; is = refl; count = p; pick = f; word = w; known = k; next = q; value = e; others = xs }
 
-at-kind : {t s : List ℕ} {m n i z : ℕ} {x : Block} (k : ℕ) → 0 < n → HoldsB t s m n i x z → get_or t i 0 % 16 ≡ k + 8 → AtKind t s m n i x z k
+at-kind : {t s : List ℕ} {m n i z : ℕ} {x : Block} (k : ℕ) → 0 < n → HoldsB t s m n i x z → kindIn (get_or t i 0) ≡ k + 8 → AtKind t s m n i x z k
 at-kind {x = x} k h b e =
     let f = kind-held h b in
     let g : tag x ≡ k = omega arith in
     rw g at (seen h b)
 
-pub is-goto : {t s : List ℕ} {m n i z : ℕ} {x : Block} → 0 < n → HoldsB t s m n i x z → get_or t i 0 % 16 ≡ gotoKind → IsGoto t s m n i x z
+pub is-goto : {t s : List ℕ} {m n i z : ℕ} {x : Block} → 0 < n → HoldsB t s m n i x z → kindIn (get_or t i 0) ≡ gotoKind → IsGoto t s m n i x z
 is-goto h b e = at-kind 0 h b e
 
-pub is-ite : {t s : List ℕ} {m n i z : ℕ} {x : Block} → 0 < n → HoldsB t s m n i x z → get_or t i 0 % 16 ≡ iteKind → IsIte t s m n i x z
+pub is-ite : {t s : List ℕ} {m n i z : ℕ} {x : Block} → 0 < n → HoldsB t s m n i x z → kindIn (get_or t i 0) ≡ iteKind → IsIte t s m n i x z
 is-ite h b e = at-kind 1 h b e
 
-pub is-step : {t s : List ℕ} {m n i z : ℕ} {x : Block} → 0 < n → HoldsB t s m n i x z → get_or t i 0 % 16 ≡ stepKind → IsStep t s m n i x z
+pub is-step : {t s : List ℕ} {m n i z : ℕ} {x : Block} → 0 < n → HoldsB t s m n i x z → kindIn (get_or t i 0) ≡ stepKind → IsStep t s m n i x z
 is-step h b e = at-kind 2 h b e
 
-pub is-assign : {t s : List ℕ} {m n i z : ℕ} {x : Block} → 0 < n → HoldsB t s m n i x z → get_or t i 0 % 16 ≡ assignKind → IsAssign t s m n i x z
+pub is-assign : {t s : List ℕ} {m n i z : ℕ} {x : Block} → 0 < n → HoldsB t s m n i x z → kindIn (get_or t i 0) ≡ assignKind → IsAssign t s m n i x z
 is-assign h b e = at-kind 3 h b e

@@ -8,18 +8,18 @@ use Rattle.rules.specs.Bits.{Res, refused, ok, isOne}
 use Rattle.rules.specs.Constants.{flagBits, charBits, numberBits}
 use Rattle.rules.specs.Refusal.{unassigned}
 use Rattle.rules.specs.Tree.{Expr, Block, number, ofExpr, ofBlock, statement, node, both, emptyTally}
-use Rattle.rules.specs.Parse.{Reader, At, bits, name_of, succeed, refuse, ◌>>=◌, incdecOf, step_of, number_of, signed}
+use Rattle.rules.specs.Parse.{Reader, At, bits, nameOf, succeed, refuse, ◌>>=◌, incdecOf, stepOf, numberOf, signed}
 use Rattle.bits.specs.Reads.{Gives, Fine, at, charsAt}
 use Rattle.bits.specs.declared.Cursor.{Cursor}
 use Rattle.bits.specs.declared.Step.{Step}
 use Rattle.bits.specs.declared.Step.TheVariants.{Next, Refused}
 use Rattle.nodes.specs.Words.{incdecKind, stepKind}
 use Rattle.nodes.specs.Width.{width}
-use Rattle.nodes.specs.Builds.{Agree, Builds, Closed, leafR, flagR, held_f, countF, heldE, countE, heldS, countS, Valueless, before}
+use Rattle.nodes.specs.Builds.{Agree, Builds, Closed, leafR, flagR, heldF, countF, heldE, countE, heldS, countS, Valueless, before}
 use Rattle.nodes.specs.Holds.{at-incdec}
 use Rattle.bits.proofs.Gives.{then, stop, done, Seen, said, see, unique, refuses as refuses-at}
-use Rattle.nodes.proofs.Table.{agree_trans, set_below, set-above, set_here}
-use Rattle.nodes.proofs.Puts.{put_step}
+use Rattle.nodes.proofs.Table.{agree-trans, set-below, set-above, set-here}
+use Rattle.nodes.proofs.Puts.{put-step}
 
 module _ {A : Type 0} {r : Reader A} {H : List ℕ → ℕ → ℕ → A → ℕ → Type 0} {Q : A → Cursor → Cursor → Type 0} {s t t' : List ℕ} {b c : Cursor} {st : Step} where
   -- a refusal that is passed on
@@ -36,8 +36,8 @@ sealed {t' = t'} {b = b} val u w {d} e h g a f k n =
       here = record {
         val = val;
         reads = g;
-        holds = record { is = f (set_here u t' i w e.is h) (set-above u t' i d.nodes w e.is); valueless = refl };
-        kept = agree_trans a (set_below u t' i w e.is);
+        holds = record { is = f (set-here u t' i w e.is h) (set-above u t' i d.nodes w e.is); valueless = refl };
+        kept = agree-trans a (set-below u t' i w e.is);
         counts = k;
         fine = n;
       };
@@ -69,7 +69,7 @@ repure {B} m q f {s} {c} {res} h = by (see m s c)
         next (refuses-at n g) = let y : res ≡ refused n = unique h (then _ r (stop _ g)) in rw y (then _ r (stop _ g))
         next (said x e g) = let y : res ≡ ok ((a, x), e) = unique h (then _ r (then _ g done)) in rw y (then _ r (then _ g done))
 
-pub incdec-leaf : (n i : ℕ) {s t t' : List ℕ} {c : Cursor} {st : Step} → Builds (flagR n) (held_f incdecKind n) countF s t t' (before i c) c st → Builds (incdecOf n) (heldE s n) countE s t t' (before i c) c st
+pub incdec-leaf : (n i : ℕ) {s t t' : List ℕ} {c : Cursor} {st : Step} → Builds (flagR n) (heldF incdecKind n) countF s t t' (before i c) c st → Builds (incdecOf n) (heldE s n) countE s t t' (before i c) c st
 unfolding flagR incdecOf ofExpr node emptyTally
 incdec-leaf n i {st = Next v d} u =
     let h = u.here in
@@ -77,18 +77,18 @@ incdec-leaf n i {st = Next v d} u =
     record {
       here = record {
         val = Expr.incdec (isOne h.val.0) h.val.1;
-        reads = repure (bits flagBits) (name_of n) (λ b x. Expr.incdec (isOne b) x) h.reads;
+        reads = repure (bits flagBits) (nameOf n) (λ b x. Expr.incdec (isOne b) x) h.reads;
         holds = record { is = at-incdec h.val.0 _ h.val.1 refl h.holds.is; valueless = h.holds.valueless };
         kept = h.kept;
         counts = omega arith;
         fine = h.fine;
       };
     }
-incdec-leaf n i {st = Refused x} u = record { here = repure (bits flagBits) (name_of n) (λ b x. Expr.incdec (isOne b) x) u.here }
+incdec-leaf n i {st = Refused x} u = record { here = repure (bits flagBits) (nameOf n) (λ b x. Expr.incdec (isOne b) x) u.here }
 
 pub incdec-stmt : (n i : ℕ) {s t t' : List ℕ} {b c : Cursor} {st : Step} → b.nodes ≡ i → c.statements ≡ b.statements + 1 → c.sections ≡ b.sections + 1 → c.strings ≡ b.strings → c.chars ≡ b.chars
-    → Builds (flagR n) (held_f stepKind n) countF s t t' (before i c) c st → Builds (step_of n) (heldS s n) countS s t t' b c st
-unfolding flagR step_of ofBlock statement node both emptyTally width
+    → Builds (flagR n) (heldF stepKind n) countF s t t' (before i c) c st → Builds (stepOf n) (heldS s n) countS s t t' b c st
+unfolding flagR stepOf ofBlock statement node both emptyTally width
 incdec-stmt n i {st = Next v d} p q r x y u =
     let h = u.here in
     let f = h.holds in
@@ -96,14 +96,14 @@ incdec-stmt n i {st = Next v d} p q r x y u =
     record {
       here = record {
         val = Block.incdec (isOne h.val.0) h.val.1;
-        reads = repure (bits flagBits) (name_of n) (λ b x. Block.incdec (isOne b) x) h.reads;
-        holds = rw p (record { is = put_step f.is; valueless = f.valueless });
+        reads = repure (bits flagBits) (nameOf n) (λ b x. Block.incdec (isOne b) x) h.reads;
+        holds = rw p (record { is = put-step f.is; valueless = f.valueless });
         kept = rw p h.kept;
         counts = record { adds = λ xs e k. omega arith };
         fine = h.fine;
       };
     }
-incdec-stmt n i {st = Refused x} p q r y z u = record { here = repure (bits flagBits) (name_of n) (λ b x. Block.incdec (isOne b) x) u.here }
+incdec-stmt n i {st = Refused x} p q r y z u = record { here = repure (bits flagBits) (nameOf n) (λ b x. Block.incdec (isOne b) x) u.here }
 
 pub no-leaf : (n k : ℕ) {s : List ℕ} {c : At} → (k ≡ 2 → ⊥) → (k ≡ 3 → ⊥) → (k ≡ 4 → ⊥) → (k ≡ 5 → ⊥) → Gives (leafR n k) s c (refused unassigned)
 unfolding leafR refuse
@@ -116,8 +116,8 @@ no-leaf n (suc (suc (suc (suc (suc zero))))) a b d e = absurd (e refl)
 no-leaf n (suc (suc (suc (suc (suc (suc k)))))) a b d e = record { is = refl }
 
 -- a number's reader, written out: where it is opened, so is what 64 bits spell
-pub number-from : {s : List ℕ} {c : At} {res : Res (Expr × At)} → Gives (bits numberBits >>= λ v. succeed (number (signed v))) s c res → Gives number_of s c res
-unfolding number_of
+pub number-from : {s : List ℕ} {c : At} {res : Res (Expr × At)} → Gives (bits numberBits >>= λ v. succeed (number (signed v))) s c res → Gives numberOf s c res
+unfolding numberOf
 number-from g = g
 
 pub chars-length : (s : List ℕ) (n p : ℕ) → length (charsAt s n p) ≡ n

@@ -3,7 +3,7 @@ use mathlib.Core.Path.{◌≡◌, refl, sym, ◌∙◌, ap}
 use mathlib.Core.Bool.{Bool}
 use mathlib.Core.List.{List, [], ◌∷◌}
 use mathlib.Core.Option.{some}
-use Prim.Native.Nat.{ℕ, zero, suc, ◌+◌, ◌*◌, ◌≤◌, ◌<◌, ◌%◌, ◌^◌}
+use Prim.Native.Nat.{ℕ, zero, suc, ◌+◌, ◌*◌, ◌≤◌, ◌<◌, ◌^◌}
 use native.Mathlib.Omega.{arith}
 use lib.ListN.{length, get_or, get_elem?}
 use Rattle.rules.specs.Constants.{stringLengthBits, numberBits, charBits, byteBits}
@@ -11,7 +11,7 @@ use Rattle.rules.specs.Bits.{spelled, isOne}
 use Rattle.rules.specs.Tree.{Binop, Unop, Expr, binop, unop, ident, number, string}
 use Rattle.rules.specs.Parse.{binops, unops, signed}
 use Rattle.bits.specs.Reads.{charsAt}
-use Rattle.nodes.specs.Words.{word_of, binopKind, unopKind, incdecKind, identKind, numberKind, stringKind}
+use Rattle.nodes.specs.Words.{wordOf, binopKind, unopKind, incdecKind, identKind, numberKind, stringKind, kindIn}
 use Rattle.nodes.specs.Holds.{HoldsE, Flag, at-binop, at-unop, at-incdec, at-ident, at-number, at-string}
 use Rattle.nodes.proofs.Words.{kind-of}
 
@@ -25,7 +25,7 @@ tag (ident x) = identKind
 tag (number z) = numberKind
 tag (string x) = stringKind
 
-pub kind-held : {t s : List ℕ} {m i j : ℕ} {e : Expr} → HoldsE t s m i e j → get_or t i 0 % 16 ≡ tag e
+pub kind-held : {t s : List ℕ} {m i j : ℕ} {e : Expr} → HoldsE t s m i e j → kindIn (get_or t i 0) ≡ tag e
 unfolding tag
 kind-held (at-binop op o p w q l r) = kind-of _ _ _ _ _ _ _ (omega arith) w
 kind-held (at-unop op o p w q r) = kind-of _ _ _ _ _ _ _ (omega arith) w
@@ -45,7 +45,7 @@ pub record IsBinop (t s : List ℕ) (m i : ℕ) (e : Expr) (j : ℕ) : Type 0 wh
   pub second : ℕ
   pub is : e ≡ binop o l r
   pub pick : get_elem? binops op ≡ some o
-  pub word : get_or t i 0 ≡ word_of binopKind op 0 0 j 0
+  pub word : get_or t i 0 ≡ wordOf binopKind op 0 0 j 0
   pub next : first ≡ i + 1
   pub left : HoldsE t s m first l second
   pub right : HoldsE t s m second r j
@@ -57,7 +57,7 @@ pub record IsUnop (t s : List ℕ) (m i : ℕ) (e : Expr) (j : ℕ) : Type 0 whe
   pub first : ℕ
   pub is : e ≡ unop o r
   pub pick : get_elem? unops op ≡ some o
-  pub word : get_or t i 0 ≡ word_of unopKind op 0 0 j 0
+  pub word : get_or t i 0 ≡ wordOf unopKind op 0 0 j 0
   pub next : first ≡ i + 1
   pub operand : HoldsE t s m first r j
 
@@ -70,14 +70,14 @@ pub record IsIncdec (t s : List ℕ) (m i : ℕ) (e : Expr) (j : ℕ) : Type 0 w
 pub record IsIdent (t s : List ℕ) (m i : ℕ) (e : Expr) (j : ℕ) : Type 0 where
   pub x : ℕ
   pub is : e ≡ ident x
-  pub word : get_or t i 0 ≡ word_of identKind 0 x 0 j 0
+  pub word : get_or t i 0 ≡ wordOf identKind 0 x 0 j 0
   pub known : x < m
   pub last : j ≡ i + 1
 
 pub record IsNumber (t s : List ℕ) (m i : ℕ) (e : Expr) (j : ℕ) : Type 0 where
   pub p : ℕ
   pub is : e ≡ number (signed (spelled s numberBits p))
-  pub word : get_or t i 0 ≡ word_of numberKind 0 0 p j 0
+  pub word : get_or t i 0 ≡ wordOf numberKind 0 0 p j 0
   pub inside : p + numberBits ≤ byteBits * length s
   pub last : j ≡ i + 1
 
@@ -85,7 +85,7 @@ pub record IsString (t s : List ℕ) (m i : ℕ) (e : Expr) (j : ℕ) : Type 0 w
   pub n : ℕ
   pub p : ℕ
   pub is : e ≡ string (charsAt s n p)
-  pub word : get_or t i 0 ≡ word_of stringKind 0 n p j 0
+  pub word : get_or t i 0 ≡ wordOf stringKind 0 n p j 0
   pub few : n < 2 ^ stringLengthBits
   pub inside : p + charBits * n ≤ byteBits * length s
   pub last : j ≡ i + 1
@@ -109,25 +109,25 @@ seen (at-ident x l w k) = record { x = x; is = refl; word = w; known = k; last =
 seen (at-number p z l w k q) = record { p = p; is = ap number (sym q); word = w; inside = k; last = l }
 seen (at-string n p x l w y k q) = record { n = n; p = p; is = ap string (sym q); word = w; few = y; inside = k; last = l }
 
-at-kind : {t s : List ℕ} {m i j : ℕ} {e : Expr} (k : ℕ) → HoldsE t s m i e j → get_or t i 0 % 16 ≡ k → AtKind t s m i e j k
+at-kind : {t s : List ℕ} {m i j : ℕ} {e : Expr} (k : ℕ) → HoldsE t s m i e j → kindIn (get_or t i 0) ≡ k → AtKind t s m i e j k
 at-kind k h e = rw (sym (kind-held h) ∙ e) at (seen h)
 
-pub is-binop : {t s : List ℕ} {m i j : ℕ} {e : Expr} → HoldsE t s m i e j → get_or t i 0 % 16 ≡ binopKind → IsBinop t s m i e j
+pub is-binop : {t s : List ℕ} {m i j : ℕ} {e : Expr} → HoldsE t s m i e j → kindIn (get_or t i 0) ≡ binopKind → IsBinop t s m i e j
 is-binop h e = at-kind binopKind h e
 
-pub is-unop : {t s : List ℕ} {m i j : ℕ} {e : Expr} → HoldsE t s m i e j → get_or t i 0 % 16 ≡ unopKind → IsUnop t s m i e j
+pub is-unop : {t s : List ℕ} {m i j : ℕ} {e : Expr} → HoldsE t s m i e j → kindIn (get_or t i 0) ≡ unopKind → IsUnop t s m i e j
 is-unop h e = at-kind unopKind h e
 
-pub is-incdec : {t s : List ℕ} {m i j : ℕ} {e : Expr} → HoldsE t s m i e j → get_or t i 0 % 16 ≡ incdecKind → IsIncdec t s m i e j
+pub is-incdec : {t s : List ℕ} {m i j : ℕ} {e : Expr} → HoldsE t s m i e j → kindIn (get_or t i 0) ≡ incdecKind → IsIncdec t s m i e j
 is-incdec h e = at-kind incdecKind h e
 
-pub is-ident : {t s : List ℕ} {m i j : ℕ} {e : Expr} → HoldsE t s m i e j → get_or t i 0 % 16 ≡ identKind → IsIdent t s m i e j
+pub is-ident : {t s : List ℕ} {m i j : ℕ} {e : Expr} → HoldsE t s m i e j → kindIn (get_or t i 0) ≡ identKind → IsIdent t s m i e j
 is-ident h e = at-kind identKind h e
 
-pub is_number : {t s : List ℕ} {m i j : ℕ} {e : Expr} → HoldsE t s m i e j → get_or t i 0 % 16 ≡ numberKind → IsNumber t s m i e j
-is_number h e = at-kind numberKind h e
+pub is-number : {t s : List ℕ} {m i j : ℕ} {e : Expr} → HoldsE t s m i e j → kindIn (get_or t i 0) ≡ numberKind → IsNumber t s m i e j
+is-number h e = at-kind numberKind h e
 
-pub is-string : {t s : List ℕ} {m i j : ℕ} {e : Expr} → HoldsE t s m i e j → get_or t i 0 % 16 ≡ stringKind → IsString t s m i e j
+pub is-string : {t s : List ℕ} {m i j : ℕ} {e : Expr} → HoldsE t s m i e j → kindIn (get_or t i 0) ≡ stringKind → IsString t s m i e j
 is-string h e = at-kind stringKind h e
 
 -- an operator that is in its list

@@ -16,7 +16,7 @@ use Rattle.nodes.specs.Builds.{listR, heldS, countS, HeldB, countB, Built, Midwa
 use Rattle.nodes.specs.Holds.{at-end}
 use Rattle.bits.proofs.Gives.{then, stop, done, assoc}
 use Rattle.nodes.proofs.Built.{behind}
-use Rattle.nodes.proofs.Table.{agree_refl, agree-part, agree_trans}
+use Rattle.nodes.proofs.Table.{agree-refl, agree-part, agree-trans}
 
 -- a list within a statement
 pub list-then : (n d : ℕ) {B : Type 0} (f : Block → Reader B) {s : List ℕ} {c c1 : At} {x : Block} {res : Res (B × At)} → Gives (listR n d) s c (ok (x, c1)) → Gives (f x) s c1 res → Gives (bits listBits >>= λ k. block k (stmt n d) >>= f) s c res
@@ -34,10 +34,10 @@ unfolding block
 block-end zero r h = done
 block-end (suc k) r h = absurd (omega arith)
 
-block_more : (k : ℕ) {r : Reader (Block → Block)} {s : List ℕ} {c c1 c2 : At} {x : Block → Block} {xs : Block} → 0 < k → Gives r s c (ok (x, c1)) → Gives (block (k - 1) r) s c1 (ok (xs, c2)) → Gives (block k r) s c (ok (x xs, c2))
+block-more : (k : ℕ) {r : Reader (Block → Block)} {s : List ℕ} {c c1 c2 : At} {x : Block → Block} {xs : Block} → 0 < k → Gives r s c (ok (x, c1)) → Gives (block (k - 1) r) s c1 (ok (xs, c2)) → Gives (block k r) s c (ok (x xs, c2))
 unfolding block
-block_more zero h g a = absurd (omega arith)
-block_more (suc k) h g a = then _ g (then _ (rw sub-one at a) done)
+block-more zero h g a = absurd (omega arith)
+block-more (suc k) h g a = then _ g (then _ (rw sub-one at a) done)
 
 block-later : (k : ℕ) {r : Reader (Block → Block)} {s : List ℕ} {c c1 : At} {x : Block → Block} {n : ℕ} → 0 < k → Gives r s c (ok (x, c1)) → Gives (block (k - 1) r) s c1 (refused n) → Gives (block k r) s c (refused n)
 unfolding block
@@ -51,8 +51,8 @@ block-stop (suc k) h g = stop _ g
 
 -- ---- midway
 
-pub mid_start : (n dep : ℕ) (s t : List ℕ) (c : Cursor) (total : ℕ) → Fine s c → Midway n dep s t t c c total total
-mid_start n dep s t c total h = record { pre = λ xs. xs; goes = λ xs d g. g; stops = λ x g. g; holds = λ u xs j a k. k; counts = λ xs d k. k; kept = agree_refl; after = omega arith; fine = h }
+pub mid-start : (n dep : ℕ) (s t : List ℕ) (c : Cursor) (total : ℕ) → Fine s c → Midway n dep s t t c c total total
+mid-start n dep s t c total h = record { pre = λ xs. xs; goes = λ xs d g. g; stops = λ x g. g; holds = λ u xs j a k. k; counts = λ xs d k. k; kept = agree-refl; after = omega arith; fine = h }
 
 pub mid-more : {n dep : ℕ} {s t0 t t' : List ℕ} {c0 c : Cursor} {total left v : ℕ} {d : Cursor} → Midway n dep s t0 t c0 c total left → 0 < left
     → Built (stmt n dep) (heldS s n) countS s t t' c c v d → Midway n dep s t0 t' c0 d total (left - 1)
@@ -61,13 +61,13 @@ mid-more {left = left} {d = d} m h x =
     let a = m.after in
     record {
       pre = λ xs. m.pre (x.val xs);
-      goes = λ xs e y. m.goes _ e (block_more left h x.reads y);
+      goes = λ xs e y. m.goes _ e (block-more left h x.reads y);
       stops = λ z y. m.stops z (block-later left h x.reads y);
       holds = λ u xs j b y.
-          m.holds u (x.val xs) j (agree_trans (agree-part x.kept (omega arith) (omega arith)) (agree-part b (omega arith) (omega arith)))
+          m.holds u (x.val xs) j (agree-trans (agree-part x.kept (omega arith) (omega arith)) (agree-part b (omega arith) (omega arith)))
           (x.holds.is.puts u left (left - 1) xs j (omega arith) (agree-part b (omega arith) (omega arith)) y);
       counts = λ xs e y. m.counts (x.val xs) e (x.counts.adds xs e y);
-      kept = agree_trans m.kept (agree-part x.kept (omega arith) (omega arith));
+      kept = agree-trans m.kept (agree-part x.kept (omega arith) (omega arith));
       after = omega arith;
       fine = x.fine;
     }
@@ -83,7 +83,7 @@ block-built {t = t} {d = d} {left = left} k m h =
     record {
       val = m.pre end;
       reads = m.goes end (at d) (block-end left _ h);
-      holds = record { is = m.holds t end d.nodes agree_refl (at-end (omega arith) refl); few = k };
+      holds = record { is = m.holds t end d.nodes agree-refl (at-end (omega arith) refl); few = k };
       kept = m.kept;
       counts = m.counts end d (omega arith);
       fine = m.fine;

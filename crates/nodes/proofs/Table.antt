@@ -9,24 +9,24 @@ use Rattle.rules.specs.Tree.{Expr, Block}
 use Rattle.nodes.specs.Holds.{HoldsE, HoldsB, Flag, at-incdec, at-binop, at-unop, at-ident, at-number, at-string, at-end, at-goto, at-ite, at-step, at-assign}
 use Rattle.nodes.specs.Builds.{Agree}
 
-pub agree_refl : {i j : ℕ} {t : List ℕ} → Agree i j t t
-agree_refl = record { same = λ k a b. refl }
+pub agree-refl : {i j : ℕ} {t : List ℕ} → Agree i j t t
+agree-refl = record { same = λ k a b. refl }
 
 pub agree-part : {i j i' j' : ℕ} {t t' : List ℕ} → Agree i j t t' → i ≤ i' → j' ≤ j → Agree i' j' t t'
 agree-part a h l = record { same = λ k x y. a.same k (omega arith) (omega arith) }
 
-pub agree_trans : {i j : ℕ} {t u v : List ℕ} → Agree i j t u → Agree i j u v → Agree i j t v
-agree_trans a b = record { same = λ k x y. b.same k x y ∙ a.same k x y }
+pub agree-trans : {i j : ℕ} {t u v : List ℕ} → Agree i j t u → Agree i j u v → Agree i j t v
+agree-trans a b = record { same = λ k x y. b.same k x y ∙ a.same k x y }
 
 -- a store at i keeps what is below and what is above
-pub set_below : (t u : List ℕ) (i w : ℕ) → u ≡ set t i w → Agree 0 i t u
-set_below t u i w e = record { same = λ k x y. rw e (get_or-set_other t i k w 0 (λ z. omega arith)) }
+pub set-below : (t u : List ℕ) (i w : ℕ) → u ≡ set t i w → Agree 0 i t u
+set-below t u i w e = record { same = λ k x y. rw e (get_or-set_other t i k w 0 (λ z. omega arith)) }
 
 pub set-above : (t u : List ℕ) (i j w : ℕ) → u ≡ set t i w → Agree (i + 1) j t u
 set-above t u i j w e = record { same = λ k x y. rw e (get_or-set_other t i k w 0 (λ z. omega arith)) }
 
-pub set_here : (t u : List ℕ) (i w : ℕ) → u ≡ set t i w → i < length t → get_or u i 0 ≡ w
-set_here t u i w e h = rw e (get_or-set_same t i w 0 h)
+pub set-here : (t u : List ℕ) (i w : ℕ) → u ≡ set t i w → i < length t → get_or u i 0 ≡ w
+set-here t u i w e h = rw e (get_or-set_same t i w 0 h)
 
 -- a tree takes at least one node, a list none or more
 pub grows : {t s : List ℕ} {m i j : ℕ} {e : Expr} → HoldsE t s m i e j → i < j

@@ -4,7 +4,7 @@ use Rattle.rules.specs.Constants.{mostNodes, mostNames, listBits, flagBits}
 use Rattle.rules.specs.Refusal.{unassigned}
 use Rattle.rules.specs.Bits.{refused, ok}
 use Rattle.rules.specs.Tree.{Tally, Expr, Block, ofExpr, ofBlock}
-use Rattle.rules.specs.Parse.{Reader, At, expr, stmt, block, bits, name_of, succeed, refuse, exprKinds, stmtKinds, incdecOf, identOf, number_of, stringOf, ◌>>=◌}
+use Rattle.rules.specs.Parse.{Reader, At, expr, stmt, block, bits, nameOf, succeed, refuse, exprKinds, stmtKinds, incdecOf, identOf, numberOf, stringOf, ◌>>=◌}
 use Rattle.bits.specs.Reads.{Gives, at, Fine}
 use Rattle.bits.specs.declared.Cursor.{Cursor}
 use Rattle.bits.specs.declared.Step.{Step}
@@ -149,11 +149,11 @@ pub record Spans (a b c : ℕ) : Type 0 where
 unfoldable pub flagR : ℕ → Reader (ℕ × ℕ)
 flagR n = do
   b ← bits flagBits
-  x ← name_of n
+  x ← nameOf n
   succeed (b, x)
 
-abbrev pub held_f : ℕ → ℕ → List ℕ → ℕ → ℕ → ℕ × ℕ → ℕ → Type 0
-held_f kind n t v i p j = Valueless (Flag kind n t i p.0 p.1 j) v
+abbrev pub heldF : ℕ → ℕ → List ℕ → ℕ → ℕ → ℕ × ℕ → ℕ → Type 0
+heldF kind n t v i p j = Valueless (Flag kind n t i p.0 p.1 j) v
 
 -- one node more, whatever it is
 pub record OneNode (b c : Cursor) : Type 0 where
@@ -171,7 +171,7 @@ exprArm n d k = get_or (exprKinds n (expr n d)) k (refuse unassigned)
 
 -- an expression's, but for those with operands
 unfoldable pub leafR : ℕ → ℕ → Reader Expr
-leafR n k = get_or (refuse unassigned ∷ refuse unassigned ∷ incdecOf n ∷ identOf n ∷ number_of ∷ stringOf ∷ []) k (refuse unassigned)
+leafR n k = get_or (refuse unassigned ∷ refuse unassigned ∷ incdecOf n ∷ identOf n ∷ numberOf ∷ stringOf ∷ []) k (refuse unassigned)
 
 unfoldable pub stmtArm : ℕ → ℕ → ℕ → Reader (Block → Block)
 stmtArm n d k = get_or (stmtKinds n (expr n d) (stmt n d)) k (refuse unassigned)

@@ -9,10 +9,10 @@ pub mod layout;
 
 ghost use Rattle.std.specs.Prelude.{◌≡◌, ◌≤◌, ◌<◌, ◌*◌, ◌+◌, ◌-◌, ◌^◌, length};
 ghost use Rattle.rules.specs.Constants.{mostNodes, nameBits, listBits, operatorBits};
-ghost use Rattle.rules.specs.Parse.{expr, identOf, number_of, stringOf, gotoOf, assignOf};
-ghost use Rattle.nodes.specs.Words.{word_of, iteWord};
+ghost use Rattle.rules.specs.Parse.{expr, identOf, numberOf, stringOf, gotoOf, assignOf};
+ghost use Rattle.nodes.specs.Words.{kindBits, posBits, widthBits, lastBits, wordOf, iteWord};
 ghost use Rattle.nodes.specs.Width.{orOne};
-ghost use Rattle.nodes.specs.Builds.{Ready, Begun, BegunStmt, Closed, Spans, Builds, before, beforeStmt, joined, heldE, countE, held_f, countF, flagR, leafR, heldS, countS, ReadsExpr, ReadsStmt, ReadsBlock, ReadsList};
+ghost use Rattle.nodes.specs.Builds.{Ready, Begun, BegunStmt, Closed, Spans, Builds, before, beforeStmt, joined, heldE, countE, heldF, countF, flagR, leafR, heldS, countS, ReadsExpr, ReadsStmt, ReadsBlock, ReadsList};
 
 use crate::layout::{COUNTS, LAST, NAME, OP, POS, WIDTH};
 use bits::{Cursor, Step};
@@ -27,10 +27,10 @@ use params::limits::{
 use params::refusal::{UNASSIGNED, UNKNOWN_NAME};
 
 // A node's word.
-#[tactic(auto, unfolding(crate::specs::Words::word_of))]
+#[tactic(auto, unfolding(crate::specs::Words::wordOf))]
 fn word(kind: u64, op: u64, name: u64, pos: usize, last: usize, width: usize) -> u64
-    requires { (kind < 16) × (op < 2 ^ operatorBits) × (name < 2 ^ nameBits) × (pos < 524288) × (last < 4096) × (width < 8192) }
-    ensures { result ≡ word_of kind op name pos last width }
+    requires { (kind < 2 ^ kindBits) × (op < 2 ^ operatorBits) × (name < 2 ^ nameBits) × (pos < 2 ^ posBits) × (last < 2 ^ lastBits) × (width < 2 ^ widthBits) }
+    ensures { result ≡ wordOf kind op name pos last width }
 {
     let low = kind + OP * op + NAME * name + POS * (pos as u64);
     low + WIDTH * (width as u64) + LAST * (last as u64)
@@ -38,8 +38,8 @@ fn word(kind: u64, op: u64, name: u64, pos: usize, last: usize, width: usize) ->
 
 // Node i is done: its word is written, now that the node behind it is known.
 fn close(t: &mut [u64], i: usize, kind: u64, op: u64, name: u64, pos: usize, c: Cursor) -> Step
-    requires { (i < length t.old) × (kind < 16) × (op < 2 ^ operatorBits) × (name < 2 ^ nameBits) × (pos < 524288) × (c.nodes ≤ mostNodes) }
-    ensures { Closed t.old t.new i (word_of kind op name pos c.nodes 0) c result }
+    requires { (i < length t.old) × (kind < 2 ^ kindBits) × (op < 2 ^ operatorBits) × (name < 2 ^ nameBits) × (pos < 2 ^ posBits) × (c.nodes ≤ mostNodes) }
+    ensures { Closed t.old t.new i (wordOf kind op name pos c.nodes 0) c result }
 {
     let w = word(kind, op, name, pos, c.nodes, 0);
     t[i] = w;
@@ -75,8 +75,8 @@ fn close_ite(t: &mut [u64], i: usize, a: u64, b: u64, x: usize, y: usize, c: Cur
 
 // A flag and a name: an Incdec, as an expression or as a statement.
 fn flagged(s: &[u8], t: &mut [u64], c: Cursor, names: u64, i: usize, kind: u64) -> Step
-    requires { (Begun s.now t.old c names i) × (kind < 16) }
-    ensures { Builds (flagR names) (held_f kind names) countF s.now t.old t.new (before i c) c result }
+    requires { (Begun s.now t.old c names i) × (kind < 2 ^ kindBits) }
+    ensures { Builds (flagR names) (heldF kind names) countF s.now t.old t.new (before i c) c result }
 {
     let r = bits::take(s, c, FLAG_BITS);
     let Step::Next(b, d) = r else {
@@ -103,7 +103,7 @@ fn ident(s: &[u8], t: &mut [u64], c: Cursor, names: u64, i: usize) -> Step
 // Its word keeps where the number stands.
 fn number(s: &[u8], t: &mut [u64], c: Cursor, names: u64, i: usize) -> Step
     requires { Begun s.now t.old c names i }
-    ensures { Builds number_of (heldE s.now names) countE s.now t.old t.new (before i c) c result }
+    ensures { Builds numberOf (heldE s.now names) countE s.now t.old t.new (before i c) c result }
 {
     let r = bits::pass(s, c, NUMBER_BITS);
     let Step::Next(_, d) = r else {

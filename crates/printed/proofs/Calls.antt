@@ -12,7 +12,7 @@ use Rattle.rules.specs.Parse.{parse}
 use Rattle.rules.specs.Machine.{Machine}
 use Rattle.rules.specs.Tables.{Tables, Counts, fits, decode, countsOf}
 use Rattle.rules.specs.Lowered.{Options, defaults, spans, texts, assemble, lowered, finished}
-use Rattle.rules.specs.Operations.{size_of, estimate, holds, build, finish}
+use Rattle.rules.specs.Operations.{sizeOf, estimate, holds, build, finish}
 use Rattle.rules.specs.Constants.{finlistBytes}
 use Rattle.rules.specs.Listing.{listing, refusal, finlist}
 use Rattle.rules.specs.Annotate.{annotate}
@@ -20,15 +20,15 @@ use Rattle.rules.specs.Replace.{replaced}
 use Rattle.rules.specs.Clean.{cleaned}
 use Rattle.rules.specs.Combine.{combined}
 use Rattle.bounds.specs.Stay.{strings-stay}
-use Rattle.bounds.specs.Lengths.{length-spans}
+use Rattle.laws.specs.Texts.{length-spans}
 use Rattle.bounds.specs.Parsed.{refused≢ok}
 use Rattle.bounds.specs.Bounds.{small}
 use Rattle.walks.specs.Calls.{Finishes, finishes}
 use Rattle.tables.proofs.Sound.{sound}
-use Rattle.tables.proofs.Change.{machine_of}
+use Rattle.tables.proofs.Change.{machineOf}
 use Rattle.text.specs.Wrote.{Room, Wrote, Prints}
 use Rattle.listing.specs.Listed.{Lists, Listed}
-use Rattle.text.proofs.Writes.{from_start}
+use Rattle.text.proofs.Writes.{from-start}
 use Rattle.listing.proofs.Machines.{one-machine}
 use Rattle.printed.proofs.Lengths.{mostCharacters, mostPrinted, refusal_length, listing-length}
 use Rattle.printed.proofs.Files.{Lent, refused-file, file}
@@ -58,25 +58,25 @@ module _ (s : List ℕ) (t t' : Tables) (short : length s ≤ finlistBytes) (l :
   unfolding finish build
   refused-prints n e = by-tree (parse s) refl
     where
-      by-room : (x : Tree) → parse s ≡ ok x → (b : Bool) → holds t (estimate (size_of x)) ≡ b → refusal n ≡ finlist s
+      by-room : (x : Tree) → parse s ≡ ok x → (b : Bool) → holds t (estimate (sizeOf x)) ≡ b → refusal n ≡ finlist s
       by-room x p false q = rw (file s x p false short l q) (let r : refused n ≡ refused Refusal.noRoom = ap (λ (z : Res Counts × Tables). z.0) (rw (p, build, q) at e) in let k : n ≡ Refusal.noRoom = cc in ap refusal k)
       by-room x p true q = absurd (refused≢ok n _ (ap (λ (z : Res Counts × Tables). z.0) (rw (p, build, q) at e)))
 
       by-tree : (p : Res Tree) → parse s ≡ p → refusal n ≡ finlist s
       by-tree (refused k) p = rw (refused-file s k short p) (let r : refused n ≡ refused k = ap (λ (z : Res Counts × Tables). z.0) (rw (p, build) at e) in let j : n ≡ k = cc in ap refusal j)
-      by-tree (ok x) p = by-room x p (holds t (estimate (size_of x))) refl
+      by-tree (ok x) p = by-room x p (holds t (estimate (sizeOf x))) refl
 
   module _ (u : Counts) (e : (ok u, t') ≡ finish defaults s t) where
-    abbrev tree_is : Finishes defaults s t u
-    tree_is = its defaults s t t' u e
+    abbrev treeIs : Finishes defaults s t u
+    treeIs = its defaults s t t' u e
 
-    pub done-prints : listing (finished defaults tree_is.tree) ≡ finlist s
+    pub done-prints : listing (finished defaults treeIs.tree) ≡ finlist s
     unfolding finish build
-    done-prints = by-room (holds t (estimate (size_of tree_is.tree))) refl
+    done-prints = by-room (holds t (estimate (sizeOf treeIs.tree))) refl
       where
-        by-room : (b : Bool) → holds t (estimate (size_of tree_is.tree)) ≡ b → listing (finished defaults tree_is.tree) ≡ finlist s
-        by-room true q = sym (file s tree_is.tree tree_is.parsed true short l q)
-        by-room false q = absurd (refused≢ok Refusal.noRoom u (sym (ap (λ (z : Res Counts × Tables). z.0) (rw (tree_is.parsed, build, q) at e))))
+        by-room : (b : Bool) → holds t (estimate (sizeOf treeIs.tree)) ≡ b → listing (finished defaults treeIs.tree) ≡ finlist s
+        by-room true q = sym (file s treeIs.tree treeIs.parsed true short l q)
+        by-room false q = absurd (refused≢ok Refusal.noRoom u (sym (ap (λ (z : Res Counts × Tables). z.0) (rw (treeIs.parsed, build, q) at e))))
 
 -- the tables that bound a listing are as long as they were
 pub record SameLengths (t t' : Tables) : Type 0 where
@@ -93,7 +93,7 @@ pub refusal-room : (o : List ℕ) (n : ℕ) → length o ≡ mostPrinted → Roo
 refusal-room o n h = let l = refusal_length n in omega arith
 
 pub refusal-prints : {o o' bs : List ℕ} {r : ℕ} (n : ℕ) → length o ≡ mostPrinted → Wrote o o' 0 r (refusal n) → refusal n ≡ bs → Prints o o' r bs
-refusal-prints {o} n h w e = prints-as (from_start w (refusal-room o n h)) e
+refusal-prints {o} n h w e = prints-as (from-start w (refusal-room o n h)) e
 
 -- the texts of a tree's machine stand end to end
 module _ (p : Options) (x : Tree) where
@@ -117,7 +117,7 @@ lists p s t t' u e o w y l =
     let k = few-texts p x s (its p s t t' u e).parsed in
     let are = ap (λ (z : Machine). z.strings) (one-machine t' u h _ m) ∙ spans-are p x in
     let b = listing-length t' u h (its-texts p x) are (length-spans 0 (its-texts p x)) (omega arith) (omega (arith, l.names, y.names, c.names)) in
-    let few : length (listing (machine_of t' u)) ≤ length o = omega (arith, l.sections, l.instrs, l.numbers, l.strings, l.names, y.sections, y.instrs, y.numbers, y.strings, y.names, c.sections, c.instrs, c.numbers, c.strings, c.names) in
+    let few : length (listing (machineOf t' u)) ≤ length o = omega (arith, l.sections, l.instrs, l.numbers, l.strings, l.names, y.sections, y.instrs, y.numbers, y.strings, y.names, c.sections, c.instrs, c.numbers, c.strings, c.names) in
     record { machine = h; room = λ n d. subst (λ (z : Machine). length (listing z) ≤ length o) (one-machine t' u h n d) few }
 
 pub listed-prints : (s : List ℕ) (t t' : Tables) (u : Counts) → length s ≤ finlistBytes → Lent t → (e : (ok u, t') ≡ finish defaults s t) → {o o' : List ℕ} {r : ℕ} → Listed t' u o o' r → Prints o o' r (finlist s)

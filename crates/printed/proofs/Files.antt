@@ -14,16 +14,16 @@ use Rattle.rules.specs.Tree.{Tree}
 use Rattle.rules.specs.Parse.{parse}
 use Rattle.rules.specs.Tables.{Tables}
 use Rattle.rules.specs.Lowered.{defaults, finished}
-use Rattle.rules.specs.Operations.{size_of, estimate, holds}
+use Rattle.rules.specs.Operations.{sizeOf, estimate, holds}
 use Rattle.rules.specs.Listing.{listing, refusal, fitsFinlist, finlist}
 use Rattle.bounds.specs.LimitsTree.{limits}
 use Rattle.bounds.specs.Estimate.{estimated}
 use Rattle.bounds.specs.Bounds.{small}
 use Rattle.printed.proofs.Lengths.{mostCharacters}
 
-pub too_long : (s : List ℕ) → finlistBytes < length s → refusal Refusal.tooLong ≡ finlist s
+pub too-long : (s : List ℕ) → finlistBytes < length s → refusal Refusal.tooLong ≡ finlist s
 unfolding finlist
-too_long s h = rw (lt-leb (length s) finlistBytes h, finlist)
+too-long s h = rw (lt-leb (length s) finlistBytes h, finlist)
 
 pub refused-file : (s : List ℕ) (n : ℕ) → length s ≤ finlistBytes → parse s ≡ refused n → finlist s ≡ refusal n
 unfolding finlist
@@ -45,24 +45,24 @@ three true false c = refl
 three false b c = refl
 
 module _ (s : List ℕ) (x : Tree) (p : parse s ≡ ok x) where
-  few-strings : (size_of x).strings ≤ mostNodes
-  unfolding estimate size_of
+  few-strings : (sizeOf x).strings ≤ mostNodes
+  unfolding estimate sizeOf
   few-strings = omega (arith, (estimated defaults x).strings, (small defaults s x p).strings)
 
-  few-characters : (size_of x).characters ≤ mostCharacters
-  unfolding size_of
+  few-characters : (sizeOf x).characters ≤ mostCharacters
+  unfolding sizeOf
   few-characters = omega (arith, (limits s x p).most-chars)
 
-  few-names : (size_of x).names ≤ mostNames
-  unfolding size_of
+  few-names : (sizeOf x).names ≤ mostNames
+  unfolding sizeOf
   few-names = omega (arith, (limits s x p).most-names)
 
-  same_test : {t : Tables} → Lent t → holds t (estimate (size_of x)) ≡ fitsFinlist (estimate (size_of x))
+  same-test : {t : Tables} → Lent t → holds t (estimate (sizeOf x)) ≡ fitsFinlist (estimate (sizeOf x))
   unfolding holds fitsFinlist estimate
-  same_test l =
-      rw (l.sections, l.instrs, l.numbers, l.strings, l.pool, l.names, le-leb (size_of x).strings mostNodes few-strings, le-leb (size_of x).characters mostCharacters few-characters, le-leb (size_of x).names mostNames few-names)
-      (three (leb (estimate (size_of x)).sections finlistSections) (leb (estimate (size_of x)).instrs finlistInstrs) (leb (estimate (size_of x)).numbers finlistNumbers))
+  same-test l =
+      rw (l.sections, l.instrs, l.numbers, l.strings, l.pool, l.names, le-leb (sizeOf x).strings mostNodes few-strings, le-leb (sizeOf x).characters mostCharacters few-characters, le-leb (sizeOf x).names mostNames few-names)
+      (three (leb (estimate (sizeOf x)).sections finlistSections) (leb (estimate (sizeOf x)).instrs finlistInstrs) (leb (estimate (sizeOf x)).numbers finlistNumbers))
 
-  pub file : {t : Tables} (b : Bool) → length s ≤ finlistBytes → Lent t → holds t (estimate (size_of x)) ≡ b → finlist s ≡ elim b [ false ↦ refusal Refusal.noRoom | true ↦ listing (finished defaults x) ]
+  pub file : {t : Tables} (b : Bool) → length s ≤ finlistBytes → Lent t → holds t (estimate (sizeOf x)) ≡ b → finlist s ≡ elim b [ false ↦ refusal Refusal.noRoom | true ↦ listing (finished defaults x) ]
   unfolding finlist
-  file b h l q = rw (le-leb (length s) finlistBytes h, p, finlist, ← same_test l, q) refl
+  file b h l q = rw (le-leb (length s) finlistBytes h, p, finlist, ← same-test l, q) refl

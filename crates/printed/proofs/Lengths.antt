@@ -10,19 +10,20 @@ use lib.IntN.{ℤ, pos, negsuc}
 use lib.ListN.{length, take, drop, length-append, length-map, length-take, take-append-drop}
 use borrow.Author.Tests.{lt-ltb}
 use lib.Seq.{length-take-le}
-use Rattle.rules.specs.Constants.{mark, mostBytes, charBits, byteBits, mostNodes, finlistSections, finlistInstrs, finlistNumbers, mostNames}
+use Rattle.rules.specs.Constants.{mark, mostBytes, charBits, byteBits, mostNodes, finlistSections, finlistInstrs, finlistNumbers, mostNames, mostCount}
 use Rattle.rules.specs.Bits.{isOne}
 use Rattle.rules.specs.Word.{wordIns, wordRun}
 use Rattle.rules.specs.Machine.{SectionCode}
-use Rattle.rules.specs.Tables.{Tables, Counts, flag, kind_of, target_of, successOf, readSections, fits}
+use Rattle.rules.specs.Tables.{Tables, Counts, flag, kindOf, targetOf, successOf, readSections, fits}
 use Rattle.rules.specs.Listing.{digits, nat, int, hex, hexText, row, rowsN, rowsT, rowsV, rowsI, rowsS, listing, refusal}
 use Rattle.rules.specs.Lowered.{spans, texts}
-use Rattle.laws.specs.Words.{ins-small, run_small}
+use Rattle.laws.specs.Words.{ins-small, wordRun-small}
 use Rattle.laws.specs.SectionWord.{flag-lt, kind-lt}
-use Rattle.tables.specs.Runs.{count_of, sectionOf, held}
+use Rattle.tables.specs.Runs.{countOf, sectionOf, held}
 use Rattle.tables.proofs.Sound.{sound}
 use Rattle.tables.proofs.Read.{read-nil, read-cons, count-is}
-use Rattle.tables.proofs.Change.{machine_of}
+use Rattle.tables.proofs.Change.{machineOf}
+use Rattle.listing.proofs.SectionRows.{rows-nil}
 
 -- ---- fields
 
@@ -92,7 +93,7 @@ numbers-length i (z ∷ zs) l =
     simp length-append (omega arith)
 
 -- texts that stand end to end
-texts-length : (pool : List ℕ) (i p : ℕ) (ts : List (List ℕ)) → i + length ts ≤ 65536 → length (texts ts) ≤ 65535 → length (rowsT pool i (spans p ts)) ≤ 16 * length ts + 2 * length (texts ts)
+texts-length : (pool : List ℕ) (i p : ℕ) (ts : List (List ℕ)) → i + length ts ≤ 65536 → length (texts ts) ≤ mostCount → length (rowsT pool i (spans p ts)) ≤ 16 * length ts + 2 * length (texts ts)
 unfolding rowsT spans texts
 texts-length pool i p [] l m = omega arith
 texts-length pool i p (t ∷ ts) l m =
@@ -135,27 +136,23 @@ section-length i w is ss l =
     let t = take r.count is in
     let k : length (map wordIns t) ≡ length t = simp length-map in
     let m : length t ≤ r.count = omega (arith, length-take r.count is) in
-    let n : r.count < 65536 = (run_small w).1.1.1.1.0 in
+    let n : r.count < 65536 = (wordRun-small w).1.1.1.1.0 in
     let a = num-few i l in
     let b = num-few (flag (isOne r.lineStart)) (omega (arith, flag-lt (isOne r.lineStart))) in
-    let c = num-few (kind_of (successOf r)) (omega (arith, kind-lt (successOf r))) in
-    let d = num-length (target_of (successOf r)) in
+    let c = num-few (kindOf (successOf r)) (omega (arith, kind-lt (successOf r))) in
+    let d = num-length (targetOf (successOf r)) in
     let e = num-few (length (map wordIns t)) (omega arith) in
     let h = instrs-length t in
     simp length-append (omega arith)
 
-no_rows : (j : ℕ) → rowsS j [] ≡ []
-unfolding rowsS
-no_rows j = refl
-
 -- sections of the words ws, whose instructions are among the words is
 sections-length : (i : ℕ) (ws is : List ℕ) → i + length ws ≤ 65536 → length (rowsS i (readSections ws is)) ≤ 47 * length ws + 26 * length is
-sections-length i [] is l = rw (read-nil is, no_rows i) (omega arith)
+sections-length i [] is l = rw (read-nil is, rows-nil i) (omega arith)
 sections-length i (w ∷ ws) is l =
     let n = (wordRun w).count in
-    let s = section-length i w is (readSections ws (drop (count_of w) is)) (omega arith) in
-    let h = sections-length (suc i) ws (drop (count_of w) is) (omega arith) in
-    let c : count_of w ≡ n = sym (count-is w) in
+    let s = section-length i w is (readSections ws (drop (countOf w) is)) (omega arith) in
+    let h = sections-length (suc i) ws (drop (countOf w) is) (omega arith) in
+    let c : countOf w ≡ n = sym (count-is w) in
     let k : length (take n is) + length (drop n is) ≡ length is = sym (length-append (take n is) (drop n is)) ∙ ap length (take-append-drop n is) in
     rw (read-cons w ws is) (omega (arith, subst (λ (x : ℕ). length (drop x is) ≡ length (drop n is)) (sym c) refl))
 
@@ -170,11 +167,11 @@ abbrev pub mostPrinted : ℕ
 mostPrinted = 107 + 30 * finlistNumbers + (16 * mostNodes + 2 * mostCharacters) + 29 * mostNames + 47 * finlistSections + 26 * finlistInstrs
 
 -- of a machine whose texts are ts, one behind the other
-module _ (t : Tables) (u : Counts) (h : fits t u ≡ true) (ts : List (List ℕ)) (are : (machine_of t u).strings ≡ spans 0 ts) (many : length (spans 0 ts) ≡ length ts) (few : length (texts ts) ≤ 65535) (names-few : u.names ≤ 65535) where
-  pub listing-length : length (listing (machine_of t u)) ≤ 107 + 30 * u.numbers + (16 * u.strings + 2 * length (texts ts)) + 29 * u.names + 47 * u.sections + 26 * u.instrs
+module _ (t : Tables) (u : Counts) (h : fits t u ≡ true) (ts : List (List ℕ)) (are : (machineOf t u).strings ≡ spans 0 ts) (many : length (spans 0 ts) ≡ length ts) (few : length (texts ts) ≤ mostCount) (names-few : u.names ≤ mostCount) where
+  pub listing-length : length (listing (machineOf t u)) ≤ 107 + 30 * u.numbers + (16 * u.strings + 2 * length (texts ts)) + 29 * u.names + 47 * u.sections + 26 * u.instrs
   unfolding listing held
   listing-length =
-      let m = machine_of t u in
+      let m = machineOf t u in
       let c = (sound t u h).counts in
       let nl = length-take-le u.numbers t.numbers c.numbers in
       let sl = length-take-le u.strings t.strings c.strings in

@@ -26,7 +26,7 @@ module _ {A : Type 0} where
   run-run (u ∷ us) l a b vs h = run-run us (set l a u) (suc a) b vs (omega arith) ∙ ap (λ m. sets m (suc a) us) (set-run vs l a b u (omega arith))
 
   -- two runs, and each goes on behind its end
-  pub two_runs : (l : List A) (a b : ℕ) (u u' v v' : List A) → a + length u + length u' ≤ b → sets (sets (sets (sets l a u) b v) (a + length u) u') (b + length v) v' ≡ sets (sets l a (u ++ u')) b (v ++ v')
-  two_runs l a b u u' v v' h =
+  pub two-runs : (l : List A) (a b : ℕ) (u u' v v' : List A) → a + length u + length u' ≤ b → sets (sets (sets (sets l a u) b v) (a + length u) u') (b + length v) v' ≡ sets (sets l a (u ++ u')) b (v ++ v')
+  two-runs l a b u u' v v' h =
       ap (λ m. sets m (b + length v) v') (sym (run-run u' (sets l a u) (a + length u) b v h) ∙ ap (λ m. sets m b v) (sets-sets u l a u'))
       ∙ sets-sets v (sets l a (u ++ u')) b v'

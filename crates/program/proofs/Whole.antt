@@ -21,15 +21,17 @@ use Rattle.rules.specs.Lowered.{Options, nameWords, spans, texts, assemble}
 use Rattle.bounds.specs.Lengths.{heads-length}
 use Rattle.bounds.specs.Own.{sizes}
 use Rattle.bounds.specs.Estimate.{sections-length, names-length}
-use Rattle.bounds.specs.Lengths.{length-spans}
+use Rattle.laws.specs.Texts.{length-spans}
 use Rattle.nodes.specs.Holds.{HoldsE, HoldsB, at-binop, at-unop, at-incdec, at-ident, at-number, at-string, at-end, at-goto, at-ite, at-step, at-assign}
-use Rattle.tree.specs.Files.{HoldsL, no_line, a-line, widths}
+use Rattle.tree.specs.Files.{HoldsL, no-line, a-line, widths}
 use Rattle.tables.specs.Lent.{tables}
 use Rattle.codegen.specs.declared.state.Counters.{Counters}
 use Rattle.codegen.specs.Does.{lent, regWord}
-use Rattle.codegen.proofs.Lists.{sets-start, map-append, length-map}
+use Rattle.codegen.proofs.Lists.{sets-start}
+use Rattle.std.proofs.lemmas.List.{map-append, length-map}
 use Rattle.stmts.specs.Makes.{Regs}
-use Rattle.stmts.proofs.Lists.{all_append, runs_append, runs-length, made-width}
+use Rattle.stmts.proofs.Lists.{made-width}
+use Rattle.laws.specs.Sections.{code-append, words-append, words-length}
 use Rattle.line.specs.Lines.{Parted}
 use Rattle.program.specs.Script.{ownCosts, LinesDone}
 use Rattle.program.specs.Program.{over, Laid}
@@ -56,23 +58,23 @@ block-nodes (at-assign y op o p b w k q e xs) = let a = expr-nodes e in let b = 
 
 pub lines-nodes : {t ls s : List ℕ} {m k i L z : ℕ} {bs : List Block} → HoldsL t ls s m k i bs L z → z ≡ i + (ofLines bs).nodes
 unfolding ofLines both Tree.emptyTally
-lines-nodes (no_line p q) = omega arith
+lines-nodes (no-line p q) = omega arith
 lines-nodes (a-line n f w b p l) = let a = block-nodes b in let c = lines-nodes l in omega arith
 
 -- ---- words from a table's start on
 
-sets_over : {A : Type 0} (vs l : List A) → length vs ≤ length l → sets l 0 vs ≡ over vs l
-sets_over vs l h = sets-eq vs l 0 (rw zero-add h) ∙ ap (λ (k : ℕ). vs ++ drop k l) (zero-add (length vs))
+sets-over : {A : Type 0} (vs l : List A) → length vs ≤ length l → sets l 0 vs ≡ over vs l
+sets-over vs l h = sets-eq vs l 0 (rw zero-add h) ∙ ap (λ (k : ℕ). vs ++ drop k l) (zero-add (length vs))
 
 over-as : {A : Type 0} (t l vs : List A) → t ≡ sets l 0 vs → length vs ≤ length l → t ≡ over vs l
-over-as t l vs e h = e ∙ sets_over vs l h
+over-as t l vs e h = e ∙ sets-over vs l h
 
 -- ---- before lowering
 
-no_register : (n k : ℕ) → get_or {A = Option ℕ} (replicate n none) k none ≡ none
-no_register zero k = refl
-no_register (suc n) zero = refl
-no_register (suc n) (suc k) = no_register n k
+no-register : (n k : ℕ) → get_or {A = Option ℕ} (replicate n none) k none ≡ none
+no-register zero k = refl
+no-register (suc n) zero = refl
+no-register (suc n) (suc k) = no-register n k
 
 never : {A : Type 0} (v : A) (x : Option A) → x ≡ none → x ≡ some v → ⊥
 never v x p q = absurd (let z : ◌≡◌ {A = ℕ} 0 1 = cc in omega arith)
@@ -93,7 +95,7 @@ start n c is ns ss ps m1 ms a b d e h =
       pool-words = refl;
       name-words = h;
       named = length-replicate n none;
-      below = λ x v q. absurd (never v (get_or (replicate n none) x none) (no_register n x) q);
+      below = λ x v q. absurd (never v (get_or (replicate n none) x none) (no-register n x) q);
     }
 
 -- ---- the whole
@@ -124,13 +126,13 @@ unfolding sectionsOf
 joined ss L H head' number c c' is is' se se' e f h p =
     let hs = heads L 0 L ss in
     let ts = tails L 0 L ss in
-    let a : c.at ≡ length (map insWord (allCode hs)) = omega (arith, f, h, p.heads-end, length-map insWord (allCode hs)) in
-    let b : L ≡ length (runWords 0 hs) = sym e ∙ (sym (heads-length L 0 L ss) ∙ sym (runs-length 0 hs)) in
+    let a : c.at ≡ length (map insWord (allCode hs)) = omega (arith, f, h, p.heads-end, length-map (allCode hs) insWord) in
+    let b : L ≡ length (runWords 0 hs) = sym e ∙ (sym (heads-length L 0 L ss) ∙ sym (words-length 0 hs)) in
     let d : 0 + length (allCode hs) ≡ c.at = omega (arith, f, h, p.heads-end) in
     record {
-      code = rw (e, all_append hs ts, map-append insWord (allCode hs) (allCode ts)) (p.code ∙ (ap (λ (k : ℕ). sets (sets is 0 (map insWord (allCode hs))) k (map insWord (allCode ts))) a ∙ sets-start (map insWord (allCode hs)) is (map insWord (allCode ts))));
-      words = rw (e, runs_append 0 hs ts, d) (p.words ∙ (ap (λ (k : ℕ). sets (sets se 0 (runWords 0 hs)) k (runWords c.at ts)) b ∙ sets-start (runWords 0 hs) se (runWords c.at ts)));
-      ends = rw (e, all_append hs ts, length-append) (omega (arith, f, h, p.heads-end, p.tails_end));
+      code = rw (e, code-append hs ts, map-append insWord (allCode hs) (allCode ts)) (p.code ∙ (ap (λ (k : ℕ). sets (sets is 0 (map insWord (allCode hs))) k (map insWord (allCode ts))) a ∙ sets-start (map insWord (allCode hs)) is (map insWord (allCode ts))));
+      words = rw (e, words-append 0 hs ts, d) (p.words ∙ (ap (λ (k : ℕ). sets (sets se 0 (runWords 0 hs)) k (runWords c.at ts)) b ∙ sets-start (runWords 0 hs) se (runWords c.at ts)));
+      ends = rw (e, code-append hs ts, length-append) (omega (arith, f, h, p.heads-end, p.tails-end));
     }
 
 counts-are : (m : Machine) {a b c d e f g h : ℕ} → a ≡ m.lines → b ≡ length m.sections → c ≡ length (allCode m.sections) → d ≡ length m.numbers → e ≡ length m.strings → f ≡ length m.pool → g ≡ length m.names → h ≡ m.values
@@ -154,21 +156,21 @@ laid o x {L} {n} {head'} {number} {c} {c'} {is} {is'} {ns} {ns'} {ss} {ss'} {ps}
     let g = (annotateLines x.lines g0).1 in
     let sl : length script ≡ L = script-length x.lines g0 ∙ el in
     let j = joined script L (ownCosts x.lines) head' number c c' is is' se se' sl ha d.cost w.parted in
-    let number_is : number ≡ length (sectionsOf script) = omega (arith, d.number_is, sections-length script, sl, script-sizes x.lines g0) in
+    let number-is : number ≡ length (sectionsOf script) = omega (arith, d.number-is, sections-length script, sl, script-sizes x.lines g0) in
     let r = w.regs in
-    let lc = length-map insWord (allCode (sectionsOf script)) in
-    let lr = runs-length 0 (sectionsOf script) in
-    let lp = length-map spanWord (spans 0 g.strings) in
+    let lc = length-map (allCode (sectionsOf script)) insWord in
+    let lr = words-length 0 (sectionsOf script) in
+    let lp = length-map (spans 0 g.strings) spanWord in
     let ls = length-spans 0 g.strings in
     let vl : length g.names ≡ n = r.named ∙ en in
     let nm = hp g.names vl (r.name-words ∙ ap (λ (k : ℕ). map regWord g.names ++ drop k ms) en) in
     let nl : length (nameWords o x.names g.names) ≡ n = names-length o x.names g.names r.named ∙ en in
     record {
-      sections = over-as se' se (runWords 0 (sectionsOf script)) j.words (omega (arith, lr, room.sections, number_is));
+      sections = over-as se' se (runWords 0 (sectionsOf script)) j.words (omega (arith, lr, room.sections, number-is));
       instrs = over-as is' is (map insWord (allCode (sectionsOf script))) j.code (omega (arith, lc, j.ends, room.at));
       numbers = over-as ns' ns g.numbers r.number-words (omega (arith, r.numbers, room.numbers));
       strings = over-as ss' ss (map spanWord (spans 0 g.strings)) r.string-words (omega (arith, lp, ls, r.strings, room.strings));
       pool = over-as ps' ps (texts g.strings) r.pool-words (omega (arith, r.chars, room.chars));
       names = nm ∙ ap (λ (k : ℕ). nameWords o x.names g.names ++ drop k ms) (sym nl);
-      counts = counts-are (assemble o x) (sym sl) number_is j.ends r.numbers (r.strings ∙ sym ls) r.chars (sym nl) r.values;
+      counts = counts-are (assemble o x) (sym sl) number-is j.ends r.numbers (r.strings ∙ sym ls) r.chars (sym nl) r.values;
     }

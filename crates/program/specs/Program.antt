@@ -1,6 +1,6 @@
 -- What lowering a whole tree asks, and what it leaves: the words of the machine before replacement, from the start of each table on.
 use Rattle.std.specs.Prelude.{◌≡◌, List, ◌++◌, ℕ, ◌+◌, ◌*◌, ◌≤◌, ◌<◌, length, drop}
-use Rattle.rules.specs.Constants.{mostBytes, mostNames, mostDepth, mostNodes}
+use Rattle.rules.specs.Constants.{mostBytes, mostNames, mostDepth, mostNodes, instrsANode, numbersANode, mostCount, mostLines}
 use Rattle.rules.specs.Tree.{Tree, ofLines}
 use Rattle.rules.specs.Machine.{Machine}
 use Rattle.rules.specs.Tables.{Tables, Counts, encode, countsOf}
@@ -37,15 +37,15 @@ pub record TreeReady (s t ls : List ℕ) (L n il nl sl pl ml zl : ℕ) : Type 0 
   pub short : length s ≤ mostBytes
   pub inside : last ≤ length t
   pub line-words : L ≤ length ls
-  pub few-lines : L < 256
+  pub few-lines : L ≤ mostLines
   pub few-names : n ≤ mostNames
   pub few-nodes : (ofLines tree.lines).nodes ≤ mostNodes
   pub shallow : deepest tree.lines ≤ mostDepth
-  pub few-strings : (ofLines tree.lines).strings ≤ 65535
-  pub few-characters : (ofLines tree.lines).characters ≤ 65535
-  pub few-sections : L + widths tree.lines ≤ 65535
-  pub room : 9 * (ofLines tree.lines).nodes ≤ il
-  pub numbers-room : 2 * (ofLines tree.lines).nodes ≤ nl
+  pub few-strings : (ofLines tree.lines).strings ≤ mostCount
+  pub few-characters : (ofLines tree.lines).characters ≤ mostCount
+  pub few-sections : L + widths tree.lines ≤ mostCount
+  pub room : instrsANode * (ofLines tree.lines).nodes ≤ il
+  pub numbers-room : numbersANode * (ofLines tree.lines).nodes ≤ nl
   pub strings-room : (ofLines tree.lines).strings ≤ sl
   pub pool-room : (ofLines tree.lines).characters ≤ pl
   pub names-room : n ≤ ml

@@ -1,6 +1,6 @@
 -- All lines: their first sections stand at the lines' numbers, their others behind, and so do the instructions.
-use Rattle.std.specs.Prelude.{◌≡◌, List, [], ◌∷◌, ℕ, ◌+◌, ◌*◌, ◌≤◌, ◌<◌, max, length}
-use Rattle.rules.specs.Constants.{mostBytes, mostNames, mostDepth, mostNodes}
+use Rattle.std.specs.Prelude.{◌≡◌, List, [], ◌∷◌, ℕ, ◌+◌, ◌*◌, ◌≤◌, max, length}
+use Rattle.rules.specs.Constants.{mostBytes, mostNames, mostDepth, mostNodes, instrsANode, mostLines}
 use Rattle.rules.specs.Tree.{Block, ofLines}
 use Rattle.rules.specs.Script.{Script}
 use Rattle.rules.specs.Assemble.{heads, tails}
@@ -11,7 +11,7 @@ use Rattle.codegen.specs.declared.state.Counters.{Counters}
 use Rattle.words.specs.declared.instr.Section.{Section}
 use Rattle.codegen.specs.Does.{Lent}
 use Rattle.stmts.specs.Makes.{Regs, placed}
-use Rattle.stmts.specs.Lists.{deep, Ample, GrewBy}
+use Rattle.stmts.specs.Lists.{deep, Ample, GrewBy, Going}
 use Rattle.stmts.specs.Parts.{ownCost}
 use Rattle.line.specs.Lines.{innerNodes, Parted}
 
@@ -65,10 +65,10 @@ pub record CostsMid (t ls : List ℕ) (L k sum : ℕ) : Type 0 where
 -- and there is room for them: for their first sections' instructions from `head` on, for the others from the cursor on
 pub record LinesReady (s t ls : List ℕ) (k L number head : ℕ) (c : Counters) (il nl sl pl ml zl : ℕ) : Type 0 where
   pub lines : HeldLines s t ls k L
-  pub few-lines : L < 256
+  pub few-lines : L ≤ mostLines
   pub shallow : deepest lines.blocks ≤ mostDepth
   pub ample : Ample (ofLines lines.blocks) (widths lines.blocks) lines.known number (placed c head) il nl sl pl ml zl
-  pub behind : c.at + 9 * innerAll lines.blocks ≤ il
+  pub behind : c.at + instrsANode * innerAll lines.blocks ≤ il
   pub first-lines : L ≤ number
 
 -- their sections are made
@@ -81,15 +81,12 @@ pub record LinesDone (m L k : ℕ) (bs : List Block) (n head : ℕ) (c : Counter
   pub does : (b : Lent) (g : CodegenData) → Regs m c.err.0 b c t g → head + ownCosts bs ≤ c.at → L ≤ n → LinesWent m L k n head head' b c t t' se se' c' (annotateLines bs g)
   pub cost : head' ≡ head + ownCosts bs
   pub spent : GrewBy (innerAll bs) (ofLines bs) c c'
-  pub number_is : number ≡ n + widths bs
+  pub number-is : number ≡ n + widths bs
 
--- midway, before line k: whatever the lines from k on do, the whole then does
-pub record Going (s t ls : List ℕ) (m L : ℕ) (bs : List Block) (z n0 head0 : ℕ) (c0 : Counters) (t0 : Lent) (se0 : List ℕ) (k n head : ℕ) (c : Counters) (t1 : Lent) (se : List ℕ) : Type 0 where
-  pub rest : List Block
-  pub first : ℕ
-  pub held : HoldsL t ls s m k first rest L z
-  pub goes : (t2 : Lent) (se2 : List ℕ) (head2 : ℕ) (c2 : Counters) (n2 : ℕ) → LinesDone m L k rest n head c t1 t2 se se2 head2 c2 n2 → LinesDone m L 0 bs n0 head0 c0 t0 t2 se0 se2 head2 c2 n2
-
+-- midway, before line k
 pub record LinesMid (s t ls : List ℕ) (L n0 head0 : ℕ) (c0 : Counters) (t0 : Lent) (se0 : List ℕ) (k n head : ℕ) (c : Counters) (t1 : Lent) (se : List ℕ) : Type 0 where
   pub ready : LinesReady s t ls k L n head c (length t1.instrs) (length t1.numbers) (length t1.strings) (length t1.pool) (length t1.names) (length se)
-  pub going : (m : ℕ) (bs : List Block) (i z : ℕ) → m ≤ mostNames → HoldsL t ls s m 0 i bs L z → Going s t ls m L bs z n0 head0 c0 t0 se0 k n head c t1 se
+  pub going : (m : ℕ) (bs : List Block) (i z : ℕ) → m ≤ mostNames → HoldsL t ls s m 0 i bs L z
+      → Going (λ (rest : List Block). (first : ℕ) × HoldsL t ls s m k first rest L z)
+      (λ rest t2 se2 c2 head2 n2. LinesDone m L k rest n head c t1 t2 se se2 head2 c2 n2)
+      (λ t2 se2 c2 head2 n2. LinesDone m L 0 bs n0 head0 c0 t0 t2 se0 se2 head2 c2 n2)

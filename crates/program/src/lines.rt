@@ -3,7 +3,7 @@
 // `head_costs` is shown to count the own instructions of the lines' first statements, `codegen_from_lines` to make the sections that `heads`
 // and `tails` of `rules` say (`LinesDone`). A caller owes the tables of nodes and lines, and room.
 ghost use Rattle.std.specs.Prelude.{◌≡◌, List, ℕ, ◌≤◌, ◌<◌, ◌/◌, ◌%◌, length};
-ghost use Rattle.rules.specs.Constants.{mostBytes, mostNames};
+ghost use Rattle.rules.specs.Constants.{mostBytes, mostNames, mostLines};
 ghost use Rattle.rules.specs.Tree.{Block};
 ghost use Rattle.rules.specs.Assemble.{nextLine};
 ghost use Rattle.nodes.specs.Holds.{HoldsB};
@@ -48,7 +48,7 @@ pub fn head_costs(nodes: &[u64], lines: &[u64], count: usize) -> usize
 
 // The line behind line k: errors go there, and so does the line's end.
 fn next_line(k: usize, count: usize) -> Section
-    requires { (k < count) × (count < 256) }
+    requires { (k < count) × (count ≤ mostLines) }
     ensures { result.0 ≡ nextLine count k }
 {
     if k + 1 == count {

@@ -44,7 +44,7 @@ fn protected(options: CodegenOptions, global: bool) -> bool
 }
 
 // A name that is not protected has no register to the outside.
-#[tactic(auto, using(crate::proofs::Names::no_word, crate::proofs::Names::word_kept, crate::proofs::Names::word_dropped, crate::proofs::Names::words_done, crate::proofs::Names::name_inside, crate::proofs::Names::name_next), unfolding(names::specs::Names::end_at))]
+#[tactic(auto, using(crate::proofs::Names::no_word, crate::proofs::Names::word_kept, crate::proofs::Names::word_dropped, crate::proofs::Names::words_done, crate::proofs::Names::name_inside, crate::proofs::Names::name_next), unfolding(names::specs::Names::endAt))]
 pub fn protect_names(s: &[u8], names: &mut [u16], n: usize, options: CodegenOptions)
     requires { NamesReady s.now n (length names.old) }
     ensures { (x : List Name) (vs : List (Option ℕ)) (rest : List ℕ) → Placed s.now x → length x ≡ n → length vs ≡ n → names.old ≡ map regWord vs ++ rest → names.new ≡ nameWords (optionsTold options) x vs ++ rest }

@@ -10,12 +10,12 @@ use Rattle.rules.specs.Word.{wordIns}
 use Rattle.rules.specs.Replace.{ruleOf}
 use Rattle.words.specs.Told.{replacedOf}
 use Rattle.words.specs.declared.instr.Replaced.{Replaced}
-use Rattle.replace.specs.Pass.{numbersBy, stringsBy, number_of, stringOf, sums}
+use Rattle.replace.specs.Pass.{numbersBy, stringsBy, numberOf, stringOf, sums}
 
 -- one word, by the answer v of the code
 module _ (w : ℕ) (v : Replaced) (told : v ≡ replacedOf (ruleOf (wordIns w)) (wordIns w)) where
-  pub numbers-are : numbersBy v ≡ number_of w
-  unfolding number_of
+  pub numbers-are : numbersBy v ≡ numberOf w
+  unfolding numberOf
   numbers-are = ap numbersBy told
 
   pub strings-are : stringsBy v ≡ stringOf w

@@ -24,11 +24,11 @@ use Rattle.words.specs.Told.{replacedOf, replacedBy}
 use Rattle.words.proofs.Rules.{replaced-is}
 use Rattle.words.specs.declared.instr.Replaced.{Replaced}
 use Rattle.words.specs.declared.instr.Replaced.TheVariants.{Stays, Goes, Turns, Number, Blank}
-use Rattle.tables.specs.Runs.{count_of, total, sectionOf, held}
+use Rattle.tables.specs.Runs.{countOf, total, sectionOf, held}
 use Rattle.tables.proofs.Sound.{sound}
 use Rattle.tables.proofs.Read.{read-nil, read-cons, count-is, whole-total}
-use Rattle.tables.proofs.Change.{machine_of, change-12, change-no, change-ok, counts_of, written, put_back, strings-back}
-use Rattle.replace.specs.Pass.{numbersBy, stringsBy, number_of, stringOf, sums, AddsAll, regs_of, whole_of, Ready, Rewrote}
+use Rattle.tables.proofs.Change.{machineOf, change-12, change-no, change-ok, counts-of, written, put-back, strings-back}
+use Rattle.replace.specs.Pass.{numbersBy, stringsBy, numberOf, stringOf, sums, AddsAll, regsOf, wholeOf, Ready, Rewrote}
 use Rattle.replace.proofs.Adding.{sums-nil, sums-cons, sums-append}
 
 -- ---- how many registers there are afterwards
@@ -47,20 +47,20 @@ answer-strings p r i (Turns w) = omega arith
 answer-strings p r i (Number z n) = omega arith
 answer-strings p r i (Blank s) = simp length-append
 
-one-numbers : (p : ℕ) (r : Regs) (w : ℕ) → length (replaceIns p r (wordIns w)).1.numbers ≡ length r.numbers + number_of w
-unfolding number_of
+one-numbers : (p : ℕ) (r : Regs) (w : ℕ) → length (replaceIns p r (wordIns w)).1.numbers ≡ length r.numbers + numberOf w
+unfolding numberOf
 one-numbers p r w = ap (λ (x : List Instruction × Regs). length x.1.numbers) (sym (replaced-is p r (wordIns w) (ins-small w))) ∙ answer-numbers p r (wordIns w) (replacedOf (ruleOf (wordIns w)) (wordIns w))
 
 one-strings : (p : ℕ) (r : Regs) (w : ℕ) → length (replaceIns p r (wordIns w)).1.strings ≡ length r.strings + stringOf w
 unfolding stringOf
 one-strings p r w = ap (λ (x : List Instruction × Regs). length x.1.strings) (sym (replaced-is p r (wordIns w) (ins-small w))) ∙ answer-strings p r (wordIns w) (replacedOf (ruleOf (wordIns w)) (wordIns w))
 
-none_left : (f : ℕ → ℕ) (is : List ℕ) → 0 ≡ length is → sums f is ≡ 0
-none_left f [] h = sums-nil f
-none_left f (i ∷ is) h = absurd (omega arith)
+none-left : (f : ℕ → ℕ) (is : List ℕ) → 0 ≡ length is → sums f is ≡ 0
+none-left f [] h = sums-nil f
+none-left f (i ∷ is) h = absurd (omega arith)
 
-parts : (f : ℕ → ℕ) (w : ℕ) (is : List ℕ) → sums f is ≡ sums f (take (wordRun w).count is) + sums f (drop (count_of w) is)
-parts f w is = ap (sums f) (sym (take-append-drop (count_of w) is)) ∙ sums-append f (take (count_of w) is) (drop (count_of w) is) ∙ rw (count-is w)
+parts : (f : ℕ → ℕ) (w : ℕ) (is : List ℕ) → sums f is ≡ sums f (take (wordRun w).count is) + sums f (drop (countOf w) is)
+parts f w is = ap (sums f) (sym (take-append-drop (countOf w) is)) ∙ sums-append f (take (countOf w) is) (drop (countOf w) is) ∙ rw (count-is w)
 
 -- a count g of registers that each word w raises by f w
 module _ (p : ℕ) (g : Regs → ℕ) (f : ℕ → ℕ) (one : (r : Regs) (w : ℕ) → g (replaceIns p r (wordIns w)).1 ≡ g r + f w) where
@@ -74,11 +74,11 @@ module _ (p : ℕ) (g : Regs → ℕ) (f : ℕ → ℕ) (one : (r : Regs) (w : �
   -- the sections of words ws, whose runs cover the words is
   section-count : (r : Regs) (ws is : List ℕ) → total ws ≡ length is → g (replaceSections p r (readSections ws is)).1 ≡ g r + sums f is
   unfolding total
-  section-count r [] is h = rw (read-nil, none_left f is h) (omega arith)
+  section-count r [] is h = rw (read-nil, none-left f is h) (omega arith)
   section-count r (w ∷ ws) is h =
-      let l : total ws ≡ length (drop (count_of w) is) = simp length-drop (omega arith) in
+      let l : total ws ≡ length (drop (countOf w) is) = simp length-drop (omega arith) in
       let a = code-count r (take (wordRun w).count is) in
-      let b = section-count (replaceCode p r (sectionOf w is).instrs).1 ws (drop (count_of w) is) l in
+      let b = section-count (replaceCode p r (sectionOf w is).instrs).1 ws (drop (countOf w) is) l in
       let c = parts f w is in
       rw read-cons (omega arith)
 
@@ -97,35 +97,35 @@ slots-are ws t n e = rw e
 
 module _ (t : Tables) (u : Counts) where
   abbrev whole : List SectionCode × Regs
-  whole = whole_of t.sections t.instrs t.numbers t.strings u.sections u.instrs u.numbers u.strings u.pool
+  whole = wholeOf t.sections t.instrs t.numbers t.strings u.sections u.instrs u.numbers u.strings u.pool
 
   abbrev made : Machine
   made = record { lines = u.lines; sections = whole.0; numbers = whole.1.numbers; strings = whole.1.strings; pool = take u.pool t.pool; values = u.values; names = take u.names t.names }
 
   -- the answer and the tables that a machine leaves
-  abbrev left_by : Machine → Res Counts × Tables
-  left_by m = (ok (countsOf m), write u m t)
+  abbrev leftBy : Machine → Res Counts × Tables
+  leftBy m = (ok (countsOf m), write u m t)
 
   module _ (pl : u.pool ≤ length t.pool) where
     pool-is : length (take u.pool t.pool) ≡ u.pool
     pool-is = length-take-le u.pool t.pool pl
 
-    made-is : replaced (machine_of t u) ≡ made
+    made-is : replaced (machineOf t u) ≡ made
     unfolding replaced
     made-is = rw pool-is
 
     -- what `replace_duplicates` leaves, for every caller of it
     module _ (nl : u.names ≤ length t.names) (ss is : List ℕ) (ns : List ℤ) (ts : List ℕ) (b k r : ℕ)
         (w : Rewrote t.sections t.instrs t.numbers t.strings ss is ns ts u.sections u.instrs u.numbers u.strings u.pool b k r) where
-      pub replaced-counts : countsOf (replaced (machine_of t u)) ≡ record { lines = u.lines; sections = u.sections; instrs = b; numbers = k; strings = r; pool = u.pool; names = u.names; values = u.values }
+      pub replaced-counts : countsOf (replaced (machineOf t u)) ≡ record { lines = u.lines; sections = u.sections; instrs = b; numbers = k; strings = r; pool = u.pool; names = u.names; values = u.values }
       replaced-counts =
           ap countsOf made-is
-          ∙ counts_of _ _ _ _ _ _ _ _ _ _ _ _ _ (sym w.section-count) (sym w.instr-count) (sym w.number-count) (sym w.string-count) pool-is (length-take-le u.names t.names nl)
+          ∙ counts-of _ _ _ _ _ _ _ _ _ _ _ _ _ (sym w.section-count) (sym w.instr-count) (sym w.number-count) (sym w.string-count) pool-is (length-take-le u.names t.names nl)
 
-      pub replaced-words : write u (replaced (machine_of t u)) t ≡ record { sections = ss; instrs = is; numbers = ns; strings = ts; pool = t.pool; names = t.names }
+      pub replaced-words : write u (replaced (machineOf t u)) t ≡ record { sections = ss; instrs = is; numbers = ns; strings = ts; pool = t.pool; names = t.names }
       replaced-words =
           ap (λ (m : Machine). write u m t) made-is
-          ∙ written _ _ _ _ _ _ _ u t _ _ _ _ _ _ (sym w.sections) (sym w.instrs) (sym w.numbers) (sym w.strings) (put_back 0 u.pool t.pool pl) (put_back 0 u.names t.names nl)
+          ∙ written _ _ _ _ _ _ _ u t _ _ _ _ _ _ (sym w.sections) (sym w.instrs) (sym w.numbers) (sym w.strings) (put-back 0 u.pool t.pool pl) (put-back 0 u.names t.names nl)
 
 -- ---- the ways out
 
@@ -145,22 +145,22 @@ module _ (t : Tables) (u : Counts) where
       numbers-are : length (whole t u).1.numbers ≡ u.numbers + n
       unfolding held
       numbers-are =
-          section-count u.pool (λ (r : Regs). length r.numbers) number_of (one-numbers u.pool) (regs_of t.numbers t.strings u.numbers u.strings) (take u.sections t.sections) (take u.instrs t.instrs) covers
+          section-count u.pool (λ (r : Regs). length r.numbers) numberOf (one-numbers u.pool) (regsOf t.numbers t.strings u.numbers u.strings) (take u.sections t.sections) (take u.instrs t.instrs) covers
           ∙ rw (length-take-le u.numbers t.numbers (sound t u h).counts.numbers, a.numbers)
 
       strings-are : length (whole t u).1.strings ≡ u.strings + s
       unfolding held
       strings-are =
-          section-count u.pool (λ (r : Regs). length r.strings) stringOf (one-strings u.pool) (regs_of t.numbers t.strings u.numbers u.strings) (take u.sections t.sections) (take u.instrs t.instrs) covers
+          section-count u.pool (λ (r : Regs). length r.strings) stringOf (one-strings u.pool) (regsOf t.numbers t.strings u.numbers u.strings) (take u.sections t.sections) (take u.instrs t.instrs) covers
           ∙ rw (length-map, length-take-le u.strings t.strings (sound t u h).counts.strings, a.strings)
 
       module _ (x y : Bool) (x-is : x ≡ (leb (u.numbers + n) (length t.numbers) && leb (u.numbers + n) mostCount)) (y-is : y ≡ (leb (u.strings + s) (length t.strings) && leb (u.strings + s) mostCount)) where
-        room-is : (slots (replaced (machine_of t u)).numbers t.numbers && slots (replaced (machine_of t u)).strings t.strings) ≡ x && y
+        room-is : (slots (replaced (machineOf t u)).numbers t.numbers && slots (replaced (machineOf t u)).strings t.strings) ≡ x && y
         room-is = rw (made-is t u pool-fits, slots-are (whole t u).1.numbers t.numbers (u.numbers + n) numbers-are, slots-are (whole t u).1.strings t.strings (u.strings + s) strings-are, x-is, y-is)
 
         pub replace-11 : x && y ≡ false → (refused Refusal.noRoom, t) ≡ replace t u
         unfolding replace
-        replace-11 e = change-no t u replaceIn h Refusal.noRoom (replace-by t (machine_of t u) false (room-is ∙ e))
+        replace-11 e = change-no t u replaceIn h Refusal.noRoom (replace-by t (machineOf t u) false (room-is ∙ e))
 
         module _ (e : x && y ≡ true) (small : (i : ℕ) → get_or t.strings i 0 < 2 ^ 32) where
           pub ready : Ready t.sections t.instrs t.numbers t.strings u.sections u.instrs u.numbers u.strings u.pool
@@ -183,9 +183,9 @@ module _ (t : Tables) (u : Counts) where
                 plain = strings-back t u k small;
               }
 
-          replaced-done : left_by t u (replaced (machine_of t u)) ≡ replace t u
+          replaced-done : leftBy t u (replaced (machineOf t u)) ≡ replace t u
           unfolding replace
-          replaced-done = change-ok t u replaceIn h (replaced (machine_of t u)) (replace-by t (machine_of t u) true (room-is ∙ e))
+          replaced-done = change-ok t u replaceIn h (replaced (machineOf t u)) (replace-by t (machineOf t u) true (room-is ∙ e))
 
           module _ (ss is : List ℕ) (ns : List ℤ) (ts : List ℕ) (b k r : ℕ) (w : Rewrote t.sections t.instrs t.numbers t.strings ss is ns ts u.sections u.instrs u.numbers u.strings u.pool b k r) where
             names-fit : u.names ≤ length t.names

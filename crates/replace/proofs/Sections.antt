@@ -13,32 +13,32 @@ use Rattle.rules.specs.Instr.{Instruction}
 use Rattle.rules.specs.Word.{wordRun, runWord, wordIns, insWord, spanWord, wordSpan}
 use Rattle.rules.specs.Machine.{SectionOrLine, SectionCode}
 use Rattle.rules.specs.Tables.{successOf, readSections, sectionRun, runWords, allCode, runOf}
-use Rattle.rules.specs.Replace.{Regs, replaceCode, with_code, replaceSections}
+use Rattle.rules.specs.Replace.{Regs, replaceCode, withCode, replaceSections}
 use Rattle.laws.specs.Sections.{words-nil, words-cons, words-length, code-nil, code-cons, replaced-length}
 use Rattle.std.proofs.lemmas.List.{map-append}
-use Rattle.tables.specs.Runs.{count_of, total, sectionOf, held}
+use Rattle.tables.specs.Runs.{countOf, total, sectionOf, held}
 use Rattle.tables.proofs.InPlace.{set-taken, drop-take, drop-later, head-same}
-use Rattle.tables.proofs.Read.{read-nil, read-cons, read_length, word-is, count-is, total-nil, total-cons}
-use Rattle.tables.proofs.Change.{put_is, put-over}
-use Rattle.replace.specs.Pass.{number_of, stringOf, sums, regs_of, Plain, Open, Ran, whole_of, Ready, Rewritten, Rewrote}
+use Rattle.tables.proofs.Read.{read-nil, read-cons, read-length, word-is, count-is, total-nil, total-cons}
+use Rattle.tables.proofs.Change.{put-is, put-over}
+use Rattle.replace.specs.Pass.{numberOf, stringOf, sums, regsOf, Plain, Open, Ran, wholeOf, Ready, Rewritten, Rewrote}
 use Rattle.replace.proofs.Adding.{sums-append}
 
 -- j sections read, a instructions; b instructions done, k numbers, s strings
 pub record Replacing (ss is : List ℕ) (ns : List ℤ) (ts : List ℕ) (n e k₀ s₀ p : ℕ) (ss' is' : List ℕ) (ns' : List ℤ) (ts' : List ℕ) (j a b k s : ℕ) : Type 0 where
-  pub sections : take j ss' ++ runWords b (replaceSections p (regs_of ns' ts' k s) (readSections (slice j n ss) (slice a e is))).0 ≡ runWords 0 (whole_of ss is ns ts n e k₀ s₀ p).0
-  pub code : take b is' ++ map insWord (allCode (replaceSections p (regs_of ns' ts' k s) (readSections (slice j n ss) (slice a e is))).0) ≡ map insWord (allCode (whole_of ss is ns ts n e k₀ s₀ p).0)
-  pub regs : (replaceSections p (regs_of ns' ts' k s) (readSections (slice j n ss) (slice a e is))).1 ≡ (whole_of ss is ns ts n e k₀ s₀ p).1
+  pub sections : take j ss' ++ runWords b (replaceSections p (regsOf ns' ts' k s) (readSections (slice j n ss) (slice a e is))).0 ≡ runWords 0 (wholeOf ss is ns ts n e k₀ s₀ p).0
+  pub code : take b is' ++ map insWord (allCode (replaceSections p (regsOf ns' ts' k s) (readSections (slice j n ss) (slice a e is))).0) ≡ map insWord (allCode (wholeOf ss is ns ts n e k₀ s₀ p).0)
+  pub regs : (replaceSections p (regsOf ns' ts' k s) (readSections (slice j n ss) (slice a e is))).1 ≡ (wholeOf ss is ns ts n e k₀ s₀ p).1
   pub section-rest : drop j ss' ≡ drop j ss
   pub rest : drop a is' ≡ drop a is
   pub number-rest : drop k ns' ≡ drop k ns
   pub string-rest : drop s ts' ≡ drop s ts
   pub plain : Plain ts' s
   pub left : a + total (slice j n ss) ≡ e
-  pub number-left : k + sums number_of (slice a e is) ≡ k₀ + sums number_of (take e is)
+  pub number-left : k + sums numberOf (slice a e is) ≡ k₀ + sums numberOf (take e is)
   pub string-left : s + sums stringOf (slice a e is) ≡ s₀ + sums stringOf (take e is)
   pub b-a : b ≤ a
   pub j-n : j ≤ n
-  pub more_numbers : k₀ ≤ k
+  pub more-numbers : k₀ ≤ k
   pub more-strings : s₀ ≤ s
   pub ss-len : length ss' ≡ length ss
   pub is-len : length is' ≡ length is
@@ -64,7 +64,7 @@ module _ (ss is : List ℕ) (ns : List ℤ) (ts : List ℕ) (n e k₀ s₀ p : �
         string-left = refl;
         b-a = omega arith;
         j-n = omega arith;
-        more_numbers = omega arith;
+        more-numbers = omega arith;
         more-strings = omega arith;
         ss-len = refl;
         is-len = refl;
@@ -92,7 +92,7 @@ module _ (ss is : List ℕ) (ns : List ℤ) (ts : List ℕ) (n e k₀ s₀ p : �
           string-rest = r.string-rest;
           plain = r.plain;
           shorter = omega arith;
-          more_numbers = r.more_numbers;
+          more-numbers = r.more-numbers;
           more-strings = r.more-strings;
         }
 
@@ -103,7 +103,7 @@ module _ (ss is : List ℕ) (ns : List ℤ) (ts : List ℕ) (n e k₀ s₀ p : �
       next : slice j n ss ≡ get_or ss' j 0 ∷ slice (j + 1) n ss
       next = rw (same, add-one) (slice-cons j n ss 0 h o.sections)
 
-      counted : count_of (get_or ss' j 0) ≡ c
+      counted : countOf (get_or ss' j 0) ≡ c
       counted = sym (c-is ∙ count-is (get_or ss' j 0))
 
       left-now : a + (c + total (slice (j + 1) n ss)) ≡ e
@@ -116,8 +116,8 @@ module _ (ss is : List ℕ) (ns : List ℤ) (ts : List ℕ) (n e k₀ s₀ p : �
       fits-less = let x = fits in omega arith
 
       -- the run, in the words at the start and in those now
-      run_is : take c (slice a e is) ≡ slice a (a + c) is'
-      run_is =
+      run-is : take c (slice a e is) ≡ slice a (a + c) is'
+      run-is =
           let z : a + c - a ≡ c = omega arith in
           rw (drop-take a e is, take-take c (e - a) (drop a is) fits-less, drop-take a (a + c) is', z, r.rest)
 
@@ -125,9 +125,9 @@ module _ (ss is : List ℕ) (ns : List ℤ) (ts : List ℕ) (n e k₀ s₀ p : �
       others-are = drop-drop c a (take e is)
 
       split : slice a e is ≡ slice a (a + c) is' ++ slice (a + c) e is
-      split = sym (take-append-drop c (slice a e is)) ∙ rw (run_is, others-are)
+      split = sym (take-append-drop c (slice a e is)) ∙ rw (run-is, others-are)
 
-      numbers-now : k + (sums number_of (slice a (a + c) is') + sums number_of (slice (a + c) e is)) ≡ k₀ + sums number_of (take e is)
+      numbers-now : k + (sums numberOf (slice a (a + c) is') + sums numberOf (slice (a + c) e is)) ≡ k₀ + sums numberOf (take e is)
       numbers-now = rw (split, sums-append) at r.number-left
 
       strings-now : s + (sums stringOf (slice a (a + c) is') + sums stringOf (slice (a + c) e is)) ≡ s₀ + sums stringOf (take e is)
@@ -153,24 +153,24 @@ module _ (ss is : List ℕ) (ns : List ℤ) (ts : List ℕ) (n e k₀ s₀ p : �
       here = record { lineStart = isOne (wordRun (get_or ss' j 0)).lineStart; instrs = map wordIns (slice a (a + c) is'); success = successOf (wordRun (get_or ss' j 0)) }
 
       here-is : sectionOf (get_or ss' j 0) (slice a e is) ≡ here
-      here-is = rw (← c-is, run_is)
+      here-is = rw (← c-is, run-is)
 
       sections-are : readSections (slice j n ss) (slice a e is) ≡ here ∷ readSections (slice (j + 1) n ss) (slice (a + c) e is)
       sections-are = rw (next, read-cons, counted, others-are) (ap (λ (x : SectionCode). x ∷ readSections (slice (j + 1) n ss) (slice (a + c) e is)) here-is)
 
       abbrev ran : List Instruction × Regs
-      ran = replaceCode p (regs_of ns' ts' k s) (map wordIns (slice a (a + c) is'))
+      ran = replaceCode p (regsOf ns' ts' k s) (map wordIns (slice a (a + c) is'))
 
       abbrev others : Regs → List SectionCode × Regs
       others q = replaceSections p q (readSections (slice (j + 1) n ss) (slice (a + c) e is))
 
-      words-now : take j ss' ++ (runWord (sectionRun (with_code here ran.0) b) ∷ runWords (b + length ran.0) (others ran.1).0) ≡ runWords 0 (whole_of ss is ns ts n e k₀ s₀ p).0
+      words-now : take j ss' ++ (runWord (sectionRun (withCode here ran.0) b) ∷ runWords (b + length ran.0) (others ran.1).0) ≡ runWords 0 (wholeOf ss is ns ts n e k₀ s₀ p).0
       words-now = rw (sections-are, words-cons) at r.sections
 
-      code-now : take b is' ++ (map insWord ran.0 ++ map insWord (allCode (others ran.1).0)) ≡ map insWord (allCode (whole_of ss is ns ts n e k₀ s₀ p).0)
+      code-now : take b is' ++ (map insWord ran.0 ++ map insWord (allCode (others ran.1).0)) ≡ map insWord (allCode (wholeOf ss is ns ts n e k₀ s₀ p).0)
       code-now = rw (sections-are, code-cons, map-append) at r.code
 
-      regs-now : (others ran.1).1 ≡ (whole_of ss is ns ts n e k₀ s₀ p).1
+      regs-now : (others ran.1).1 ≡ (wholeOf ss is ns ts n e k₀ s₀ p).1
       regs-now = rw sections-are at r.regs
 
       module _ (is'' : List ℕ) (ns'' : List ℤ) (ts'' : List ℕ) (b'' k'' s'' : ℕ) (d : Ran is' ns' ts' is'' ns'' ts'' p b k s b'' k'' s'' a (a + c)) (il : length is'' ≡ length is') (nl : length ns'' ≡ length ns') (tl : length ts'' ≡ length ts')
@@ -178,8 +178,8 @@ module _ (ss is : List ℕ) (ns : List ℤ) (ts : List ℕ) (n e k₀ s₀ p : �
         m-count : m ≡ length ran.0
         m-count = let x = d.count in omega arith
 
-        v-word : v ≡ runWord (sectionRun (with_code here ran.0) b)
-        v-word = v-is ∙ word-is b (with_code here ran.0) l q m l-is q-is m-count
+        v-word : v ≡ runWord (sectionRun (withCode here ran.0) b)
+        v-word = v-is ∙ word-is b (withCode here ran.0) l q m l-is q-is m-count
 
         j-len : n ≤ length ss'
         j-len = let x = r.ss-len in let y = o.sections in omega arith
@@ -202,12 +202,12 @@ module _ (ss is : List ℕ) (ns : List ℤ) (ts : List ℕ) (n e k₀ s₀ p : �
             let w : a ≤ a + c = omega arith in
             let kk : k ≤ k'' = omega arith in
             let sk : s ≤ s'' = omega arith in
-            let m1 = r.more_numbers in
+            let m1 = r.more-numbers in
             let m2 = r.more-strings in
             record {
               sections =
                   rw (set-taken ss' j (j + 1) v j-next j-fits, v-word, d.regs, d.count)
-                  (append_snoc (take j ss') (runWord (sectionRun (with_code here ran.0) b)) (runWords (b + length ran.0) (others ran.1).0) ∙ words-now);
+                  (append_snoc (take j ss') (runWord (sectionRun (withCode here ran.0) b)) (runWords (b + length ran.0) (others ran.1).0) ∙ words-now);
               code = rw (d.code, d.regs) (append_assoc (take b is') (map insWord ran.0) (map insWord (allCode (others ran.1).0)) ∙ code-now);
               regs = rw d.regs regs-now;
               section-rest = drop-set-lt (j + 1) ss' j v j-next ∙ drop-later j (j + 1) ss' ss r.section-rest u;
@@ -220,7 +220,7 @@ module _ (ss is : List ℕ) (ns : List ℤ) (ts : List ℕ) (n e k₀ s₀ p : �
               string-left = omega arith;
               b-a = omega arith;
               j-n = omega arith;
-              more_numbers = omega arith;
+              more-numbers = omega arith;
               more-strings = omega arith;
               ss-len = simp length-set r.ss-len;
               is-len = il ∙ r.is-len;
@@ -232,12 +232,12 @@ module _ (ss is : List ℕ) (ns : List ℤ) (ts : List ℕ) (n e k₀ s₀ p : �
 
 module _ (ss is : List ℕ) (ns : List ℤ) (ts : List ℕ) (n e k s p : ℕ) (o : Ready ss is ns ts n e k s p) (ss' is' : List ℕ) (ns' : List ℤ) (ts' : List ℕ) (b k' s' : ℕ) (w : Rewritten ss is ns ts ss' is' ns' ts' n e k s p b k' s') where
   abbrev whole : List SectionCode × Regs
-  whole = whole_of ss is ns ts n e k s p
+  whole = wholeOf ss is ns ts n e k s p
 
   module _ (sl : n ≤ length ss') (il : e ≤ length is') (nl : k' ≤ length ns') (tl : s' ≤ length ts') where
     sections-count : length whole.0 ≡ n
     unfolding held
-    sections-count = replaced-length p (regs_of ns ts k s) (held ss is n e) ∙ read_length (take n ss) (take e is) ∙ length-take-le n ss o.sections
+    sections-count = replaced-length p (regsOf ns ts k s) (held ss is n e) ∙ read-length (take n ss) (take e is) ∙ length-take-le n ss o.sections
 
     code-count : length (map insWord (allCode whole.0)) ≡ b
     code-count = let q = w.shorter in let z : b ≤ length is' = omega arith in rw (← w.instrs) (length-take-le b is' z)
@@ -254,8 +254,8 @@ module _ (ss is : List ℕ) (ns : List ℤ) (ts : List ℕ) (n e k s p : ℕ) (o
     pub rewrote : (is'' : List ℕ) → is'' ≡ take b is' ++ (replicate (e - b) 0 ++ drop e is') → Rewrote ss is ns ts ss' is'' ns' ts' n e k s p b k' s'
     rewrote is'' z = record {
       sections = put-over 0 n n (runWords 0 whole.0) ss ss' w.sections (words-length 0 whole.0 ∙ sections-count) (omega arith) w.section-rest;
-      instrs = z ∙ put_is e b (map insWord (allCode whole.0)) is is' w.instrs code-count w.shorter w.instr-rest;
-      numbers = put-over (pos 0) k k' whole.1.numbers ns ns' numbers-are (sym (ap length numbers-are) ∙ length-take-le k' ns' nl) w.more_numbers w.number-rest;
+      instrs = z ∙ put-is e b (map insWord (allCode whole.0)) is is' w.instrs code-count w.shorter w.instr-rest;
+      numbers = put-over (pos 0) k k' whole.1.numbers ns ns' numbers-are (sym (ap length numbers-are) ∙ length-take-le k' ns' nl) w.more-numbers w.number-rest;
       strings = put-over 0 s s' (map spanWord whole.1.strings) ts ts' strings-are (sym (ap length strings-are) ∙ length-take-le s' ts' tl) w.more-strings w.string-rest;
       section-count = sym sections-count;
       instr-count = sym code-count ∙ length-map (allCode whole.0) insWord;

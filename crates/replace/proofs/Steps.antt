@@ -21,8 +21,8 @@ use Rattle.words.specs.declared.instr.StrReg as S
 use Rattle.words.specs.declared.number.Number as Z
 use Rattle.words.specs.declared.instr.Replaced.{Replaced}
 use Rattle.words.specs.declared.instr.Replaced.TheVariants.{Stays, Goes, Turns, Number, Blank}
-use Rattle.tables.proofs.InPlace.{set-taken, set_rest}
-use Rattle.replace.specs.Pass.{regs_of, Plain, NumberAdded, BlankAdded, Stepped}
+use Rattle.tables.proofs.InPlace.{set-taken, set-rest}
+use Rattle.replace.specs.Pass.{regsOf, Plain, NumberAdded, BlankAdded, Stepped}
 use Rattle.replace.proofs.Adding.{numbers-are, strings-are}
 
 abbrev made : List ℤ → List Span → Regs
@@ -42,7 +42,7 @@ module _ (is : List ℕ) (ns : List ℤ) (ts : List ℕ) (p b n s w : ℕ) where
   answer = replacedOf (ruleOf (wordIns w)) (wordIns w)
 
   abbrev regs : Regs
-  regs = regs_of ns ts n s
+  regs = regsOf ns ts n s
 
   abbrev result-of : List Instruction × Regs
   result-of = replaceIns p regs (wordIns w)
@@ -83,7 +83,7 @@ module _ (is : List ℕ) (ns : List ℤ) (ts : List ℕ) (p b n s w : ℕ) where
         record {
           code = set-taken is b (b + 1) v b-next b-len ∙ ap (λ (x : ℕ). take b is ++ (x ∷ [])) v-is ∙ ap (λ (x : List Instruction × Regs). take b is ++ map insWord x.0) (by Stays e);
           regs = ap (λ (x : List Instruction × Regs). x.1) (by Stays e);
-          rest = set_rest is b (b + 1) v b-next b-len;
+          rest = set-rest is b (b + 1) v b-next b-len;
           number-rest = refl;
           string-rest = refl;
           plain = λ h. h;
@@ -99,7 +99,7 @@ module _ (is : List ℕ) (ns : List ℤ) (ts : List ℕ) (p b n s w : ℕ) where
         record {
           code = set-taken is b (b + 1) v.0 b-next b-len ∙ ap (λ (x : List ℕ). take b is ++ x) (turned-code p regs (wordIns w) (ruleOf (wordIns w)) v e);
           regs = ap (λ (x : List Instruction × Regs). x.1) (by (Turns v) e);
-          rest = set_rest is b (b + 1) v.0 b-next b-len;
+          rest = set-rest is b (b + 1) v.0 b-next b-len;
           number-rest = refl;
           string-rest = refl;
           plain = λ h. h;
@@ -112,8 +112,8 @@ module _ (is : List ℕ) (ns : List ℤ) (ts : List ℕ) (p b n s w : ℕ) where
       n-next : n < n + 1
       n-next = omega arith
 
-      n_len : n + 1 ≤ length ns
-      n_len = omega arith
+      n-len : n + 1 ≤ length ns
+      n-len = omega arith
 
       n-is : length (take n ns) ≡ n
       n-is = let k : n ≤ length ns = omega arith in length-take-le n ns k
@@ -124,8 +124,8 @@ module _ (is : List ℕ) (ns : List ℤ) (ts : List ℕ) (p b n s w : ℕ) where
           ∙ ap (λ (x : ℕ). take b is ++ (insWord (ins₂ CopyNum x m.0) ∷ [])) (sym n-is)
           ∙ ap (λ (x : List Instruction × Regs). take b is ++ map insWord x.0) (by (Number z m) e)
 
-      number-regs : regs_of (set ns n z.0) ts (n + 1) s ≡ result-of.1
-      number-regs = ap (λ (x : List ℤ). made x (map wordSpan (take s ts))) (set-taken ns n (n + 1) z.0 n-next n_len) ∙ ap (λ (x : List Instruction × Regs). x.1) (by (Number z m) e)
+      number-regs : regsOf (set ns n z.0) ts (n + 1) s ≡ result-of.1
+      number-regs = ap (λ (x : List ℤ). made x (map wordSpan (take s ts))) (set-taken ns n (n + 1) z.0 n-next n-len) ∙ ap (λ (x : List Instruction × Regs). x.1) (by (Number z m) e)
 
       pub number-added : Step is' ns' ts b' n' s'
       number-added =
@@ -137,8 +137,8 @@ module _ (is : List ℕ) (ns : List ℤ) (ts : List ℕ) (p b n s w : ℕ) where
           record {
             code = rw (a.instr-count, a.instr) number-code;
             regs = rw (a.number-count, a.string-count, a.number) number-regs;
-            rest = rw a.instr (set_rest is b (b + 1) (insWord (ins₂ CopyNum n m.0)) b-next b-len);
-            number-rest = rw (a.number-count, a.number) (set_rest ns n (n + 1) z.0 n-next n_len);
+            rest = rw a.instr (set-rest is b (b + 1) (insWord (ins₂ CopyNum n m.0)) b-next b-len);
+            number-rest = rw (a.number-count, a.number) (set-rest ns n (n + 1) z.0 n-next n-len);
             string-rest = refl;
             plain = λ h. rw a.string-count h;
             number-count = omega arith;
@@ -153,14 +153,14 @@ module _ (is : List ℕ) (ns : List ℤ) (ts : List ℕ) (p b n s w : ℕ) where
       s-next : s < s + 1
       s-next = omega arith
 
-      s_len : s + 1 ≤ length ts
-      s_len = omega arith
+      s-len : s + 1 ≤ length ts
+      s-len = omega arith
 
       s-is : length (map wordSpan (take s ts)) ≡ s
       s-is = let k : s ≤ length ts = omega arith in simp length-map (length-take-le s ts k)
 
-      empty_back : wordSpan (spanWord empty) ≡ empty
-      empty_back = span-back empty (o, (pow_pos 7, tt))
+      empty-back : wordSpan (spanWord empty) ≡ empty
+      empty-back = span-back empty (o, (pow_pos 7, tt))
 
       blank-code : take (b + 1) (set is b (insWord (ins₂ CopyStr s m.0))) ≡ take b is ++ map insWord result-of.0
       blank-code =
@@ -169,13 +169,13 @@ module _ (is : List ℕ) (ns : List ℤ) (ts : List ℕ) (p b n s w : ℕ) where
           ∙ ap (λ (x : List Instruction × Regs). take b is ++ map insWord x.0) (by (Blank m) e)
 
       spans : map wordSpan (take (s + 1) (set ts s (spanWord empty))) ≡ map wordSpan (take s ts) ++ (empty ∷ [])
-      spans = rw (set-taken ts s (s + 1) (spanWord empty) s-next s_len, map-append, empty_back)
+      spans = rw (set-taken ts s (s + 1) (spanWord empty) s-next s-len, map-append, empty-back)
 
-      blank-regs : regs_of ns (set ts s (spanWord empty)) n (s + 1) ≡ result-of.1
+      blank-regs : regsOf ns (set ts s (spanWord empty)) n (s + 1) ≡ result-of.1
       blank-regs = ap (λ (x : List Span). made (take n ns) x) spans ∙ ap (λ (x : List Instruction × Regs). x.1) (by (Blank m) e)
 
       blank-plain : Plain ts s → Plain (set ts s (spanWord empty)) (s + 1)
-      blank-plain h = ap (map spanWord) spans ∙ map-append spanWord (map wordSpan (take s ts)) (empty ∷ []) ∙ rw h (sym (set-taken ts s (s + 1) (spanWord empty) s-next s_len))
+      blank-plain h = ap (map spanWord) spans ∙ map-append spanWord (map wordSpan (take s ts)) (empty ∷ []) ∙ rw h (sym (set-taken ts s (s + 1) (spanWord empty) s-next s-len))
 
       pub blank-added : Step is' ns ts' b' n' s'
       blank-added =
@@ -187,9 +187,9 @@ module _ (is : List ℕ) (ns : List ℤ) (ts : List ℕ) (p b n s w : ℕ) where
           record {
             code = rw (a.instr-count, a.instr) blank-code;
             regs = rw (a.number-count, a.string-count, a.string) blank-regs;
-            rest = rw a.instr (set_rest is b (b + 1) (insWord (ins₂ CopyStr s m.0)) b-next b-len);
+            rest = rw a.instr (set-rest is b (b + 1) (insWord (ins₂ CopyStr s m.0)) b-next b-len);
             number-rest = refl;
-            string-rest = rw (a.string-count, a.string) (set_rest ts s (s + 1) (spanWord empty) s-next s_len);
+            string-rest = rw (a.string-count, a.string) (set-rest ts s (s + 1) (spanWord empty) s-next s-len);
             plain = λ h. rw (a.string-count, a.string) (blank-plain h);
             number-count = omega arith;
             string-count = omega arith;

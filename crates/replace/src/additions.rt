@@ -11,7 +11,7 @@ pub struct Added {
 }
 
 // What one instruction adds.
-#[tactic(auto, unfolding(crate::specs::Pass::number_of, crate::specs::Pass::stringOf))]
+#[tactic(auto, unfolding(crate::specs::Pass::numberOf, crate::specs::Pass::stringOf))]
 fn adds(w: Instruction) -> Added
     ensures { Adds w.0 result.numbers result.strings }
 {

@@ -1,5 +1,6 @@
 // One instruction replaced: what becomes of it is written behind the instructions that are done, an added number or string behind the
 // registers. Shown equal to `replaceIns` of `rules`. Asks that there is room.
+ghost use Rattle.rules.specs.Constants.{mostCount};
 ghost use Rattle.std.specs.Prelude.{◌<◌, length};
 ghost use Rattle.replace.specs.Pass.{NumberAdded, BlankAdded, Spare, Stepped};
 
@@ -24,7 +25,7 @@ fn add_number(
     number: Number,
     to: NumReg,
 ) -> At
-    requires { (at.instructions < length instructions.old) × (at.numbers < length numbers.old) × (at.numbers < 65535) }
+    requires { (at.instructions < length instructions.old) × (at.numbers < length numbers.old) × (at.numbers < mostCount) }
     ensures { NumberAdded instructions.old numbers.old instructions.new numbers.new at.instructions at.numbers at.strings result.instructions result.numbers result.strings number.0 to.0 }
 {
     let b = at.instructions;
@@ -49,7 +50,7 @@ fn add_blank(
     characters: u16,
     to: StrReg,
 ) -> At
-    requires { (at.instructions < length instructions.old) × (at.strings < length strings.old) × (at.strings < 65535) }
+    requires { (at.instructions < length instructions.old) × (at.strings < length strings.old) × (at.strings < mostCount) }
     ensures { BlankAdded instructions.old strings.old instructions.new strings.new at.instructions at.numbers at.strings result.instructions result.numbers result.strings characters to.0 }
 {
     let b = at.instructions;
@@ -65,7 +66,7 @@ fn add_blank(
     }
 }
 
-#[tactic(auto, unfolding(crate::specs::Pass::number_of, crate::specs::Pass::stringOf))]
+#[tactic(auto, unfolding(crate::specs::Pass::numberOf, crate::specs::Pass::stringOf))]
 pub fn replace_instruction(
     instructions: &mut [u64],
     numbers: &mut [i64],

@@ -44,8 +44,8 @@ abbrev pub condJump : ℕ → ℕ → Instruction
 condJump n c = ins₂ Op.JumpSectionIf n c
 
 -- an empty then-list gives no conditional jump
-abbrev pub cond_code : Stmts → ℕ → ℕ → List Instruction
-cond_code t c n = cond (isNil t) [] (condJump n c ∷ [])
+abbrev pub condCode : Stmts → ℕ → ℕ → List Instruction
+condCode t c n = cond (isNil t) [] (condJump n c ∷ [])
 
 -- a section that is no line start
 abbrev pub inner : List Instruction → SectionOrLine → SectionCode
@@ -64,7 +64,7 @@ stmtSections b e n k (goto o r s) = inner (ownCode e o) (line r) ∷ stmtSection
 stmtSections b e n k (ite o c t f s) =
     let nf = suc n + orOne t (sectionsMade t) in
     let nj = nf + orOne f (sectionsMade f) in
-    inner (ownCode e o ++ cond_code t c (suc n)) (section nf)
+    inner (ownCode e o ++ condCode t c (suc n)) (section nf)
     ∷ (orEmpty t nj (stmtSections true e (suc n) nj t)
     ++ (orEmpty f nj (stmtSections true e nf nj f) ++ (inner [] (link b (entry s (suc nj) k)) ∷ stmtSections b e (suc nj) k s)))
 
@@ -75,9 +75,9 @@ abbrev pub asStart : SectionCode → SectionCode
 asStart s = record { lineStart = true; instrs = s.instrs; success = s.success }
 
 -- a line's section that stands at the line's number: its first, which traded places; of an empty line the placeholder, linked
-abbrev pub head_of : ℕ → List SectionCode → SectionCode
-head_of e [] = record { lineStart = true; instrs = []; success = section e }
-head_of e (s ∷ ss) = asStart s
+abbrev pub headOf : ℕ → List SectionCode → SectionCode
+headOf e [] = record { lineStart = true; instrs = []; success = section e }
+headOf e (s ∷ ss) = asStart s
 
 -- a line's other sections: the placeholder, where the first was made, and the rest
 abbrev pub tailOf : List SectionCode → List SectionCode
@@ -91,7 +91,7 @@ lineSections L i n s = stmtSections true (nextLine L i) n (nextLine L i) s
 -- what stands at the lines' numbers
 abbrev pub heads : ℕ → ℕ → ℕ → Script → List SectionCode
 heads L i n [] = []
-heads L i n (s ∷ ss) = head_of (nextLine L i) (lineSections L i n s) ∷ heads L (suc i) (n + sectionsMade s) ss
+heads L i n (s ∷ ss) = headOf (nextLine L i) (lineSections L i n s) ∷ heads L (suc i) (n + sectionsMade s) ss
 
 -- what stands behind
 abbrev pub tails : ℕ → ℕ → ℕ → Script → List SectionCode

@@ -1,6 +1,6 @@
 -- The state of lowering, `CodegenData` of codegen.rs, and the changes of it. Sections are made later (Assemble), so here stand the
 -- instructions of the statement at hand, and the registers so far.
-use Rattle.std.specs.Prelude.{List, [], ◌∷◌, ◌++◌, ℕ, suc, ◌+◌, ℤ, length, set}
+use Rattle.std.specs.Prelude.{List, [], ◌∷◌, ◌++◌, ℕ, suc, ℤ, length, set}
 use Rattle.std.proofs.Math.Option.{Option, some}
 use Rattle.rules.specs.Instr.{Instruction}
 

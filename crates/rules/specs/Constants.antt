@@ -1,4 +1,4 @@
--- The numbers of document 01, each under one name: limits, widths in bits, and what is lent. The refusals stand in Refusal, the opcodes in Opcode.
+-- The numbers, each under one name: limits, widths in bits, and what is lent. The refusals stand in Refusal, the opcodes in Opcode.
 use Rattle.std.specs.Prelude.{List, [], ◌∷◌, ℕ, ◌-◌, ◌^◌}
 
 -- ---- limits
@@ -29,8 +29,8 @@ mostCount = 65535
 abbrev pub form : ℕ
 form = 1
 
-abbrev pub head_bits : ℕ
-head_bits = 8
+abbrev pub headBits : ℕ
+headBits = 8
 
 -- the count of names, and a name's number
 abbrev pub nameBits : ℕ
@@ -98,11 +98,11 @@ sectionLayout = 1 ∷ 1 ∷ 16 ∷ 16 ∷ 16 ∷ 14 ∷ []
 
 -- start in the pool, length
 abbrev pub stringLayout : List ℕ
-stringLayout = 16 ∷ 7 ∷ 9 ∷ []
+stringLayout = 16 ∷ stringLengthBits ∷ 9 ∷ []
 
--- the target of an unfixed section, and the word of a name without a register
+-- the target of an unfixed section, and the word of a name without a register: no count reaches above it, so it is neither's number
 abbrev pub mark : ℕ
-mark = 65535
+mark = mostCount
 
 -- ---- numbers are thousandths
 

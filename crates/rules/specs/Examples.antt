@@ -1,4 +1,4 @@
--- The tried inputs of document 01, computed: a table of files with what is expected of each, and one theorem for all its rows.
+-- Files that were tried, computed: a table of them with what is expected of each, and one theorem for all its rows.
 use Rattle.std.specs.Prelude.{◌≡◌, refl, true, List, [], ◌∷◌, map, ℕ, zero, suc, ◌/◌, ◌%◌, ◌^◌, ℤ, pos, length, replicate}
 use Rattle.std.proofs.Math.Option.{some}
 use Rattle.std.proofs.Math.ListN.{get_elem?}
@@ -27,53 +27,53 @@ unfoldable pub head : List Instruction → SectionOrLine → SectionCode
 head c k = record { lineStart = true; instrs = c; success = k }
 
 -- a machine of one line without strings, whose n names have no register
-unfoldable pub one_line : ℕ → List SectionCode → List ℤ → ℕ → Machine
-one_line n ss ns vs = record { lines = 1; sections = ss; numbers = ns; strings = []; pool = []; values = vs; names = replicate n mark }
+unfoldable pub oneLine : ℕ → List SectionCode → List ℤ → ℕ → Machine
+oneLine n ss ns vs = record { lines = 1; sections = ss; numbers = ns; strings = []; pool = []; values = vs; names = replicate n mark }
 
 -- a file and what is seen of it
 pub record Tried : Type 0 where
   pub file : List ℕ
   pub expected : Res (ℕ × Machine)
 
--- the starred inputs, and the sample of finlist
+-- what was tried, and the sample of finlist
 unfoldable pub tried : List Tried
-unfolding bytes one_line head
+unfolding bytes oneLine head
 tried =
     -- the empty file; 01 00; an empty line
     record { file = []; expected = refused 3 }
     ∷ record { file = bytes 2 0x0100; expected = refused 2 }
-    ∷ record { file = bytes 4 0x01010000; expected = ok (1, one_line 0 (head [] (section 0) ∷ []) [] 0) }
+    ∷ record { file = bytes 4 0x01010000; expected = ok (1, oneLine 0 (head [] (section 0) ∷ []) [] 0) }
     -- x=x
     ∷ record {
       file = bytes 9 0x01010101E01C003000;
-      expected = ok (2, one_line 1 (head [] (section 0) ∷ []) [] 1);
+      expected = ok (2, oneLine 1 (head [] (section 0) ∷ []) [] 1);
     }
     -- x+=x
     ∷ record {
       file = bytes 9 0x01010101E01C00B000;
-      expected = ok (2, one_line 1 (head (ins₁ Op.AddSelfVal 0 ∷ []) (section 0) ∷ []) [] 1);
+      expected = ok (2, oneLine 1 (head (ins₁ Op.AddSelfVal 0 ∷ []) (section 0) ∷ []) [] 1);
     }
     -- x=1, the sample of finlist
     ∷ record {
       file = bytes 16 0x01010101E01C00400000000000003E80;
-      expected = ok (2, one_line 1 (head (ins₂ Op.ValueifyNum 0 0 ∷ ins₂ Op.CopyVal 0 1 ∷ []) (section 0) ∷ []) (pos 1000 ∷ []) 2);
+      expected = ok (2, oneLine 1 (head (ins₂ Op.ValueifyNum 0 0 ∷ ins₂ Op.CopyVal 0 1 ∷ []) (section 0) ∷ []) (pos 1000 ∷ []) 2);
     }
     -- c=a>=b
     ∷ record {
       file = bytes 15 0x0101030184062018C1C080C600C040;
-      expected = ok (2, one_line 3 (head (ins₂ Op.CopyVal 0 1 ∷ ins₂ Op.CopyVal 2 3 ∷ ins₃ Op.Le 1 3 0 ∷ ins₂ Op.ValueifyNum 0 4 ∷ ins₂ Op.CopyVal 4 5 ∷ []) (section 0) ∷ []) (pos 0 ∷ []) 6);
+      expected = ok (2, oneLine 3 (head (ins₂ Op.CopyVal 0 1 ∷ ins₂ Op.CopyVal 2 3 ∷ ins₃ Op.Le 1 3 0 ∷ ins₂ Op.ValueifyNum 0 4 ∷ ins₂ Op.CopyVal 4 5 ∷ []) (section 0) ∷ []) (pos 0 ∷ []) 6);
     }
     -- x=1 y=2
     ∷ record {
       file = bytes 28 0x01010201E00790B00100000000000000FA301100000000000001F400;
-      expected = ok (3, one_line 2 (head (ins₂ Op.ValueifyNum 0 0 ∷ ins₂ Op.CopyVal 0 1 ∷ ins₂ Op.ValueifyNum 1 2 ∷ ins₂ Op.CopyVal 2 3 ∷ []) (section 0) ∷ []) (pos 1000 ∷ pos 2000 ∷ []) 4);
+      expected = ok (3, oneLine 2 (head (ins₂ Op.ValueifyNum 0 0 ∷ ins₂ Op.CopyVal 0 1 ∷ ins₂ Op.ValueifyNum 1 2 ∷ ins₂ Op.CopyVal 2 3 ∷ []) (section 0) ∷ []) (pos 1000 ∷ pos 2000 ∷ []) 4);
     }
     -- if a then b=1 end
     ∷ record {
       file = bytes 21 0x0101020184062056000E02200000000000001F4000;
       expected = ok (
         5,
-        one_line 2
+        oneLine 2
             (head (ins₂ Op.IsTruthyVal 0 0 ∷ ins₂ Op.JumpSectionIf 1 0 ∷ []) (section 2)
             ∷ inner (ins₂ Op.ValueifyNum 1 1 ∷ ins₂ Op.CopyVal 1 2 ∷ []) (section 2)
             ∷ inner [] (section 0) ∷ []) (pos 0 ∷ pos 1000 ∷ []) 3,
@@ -82,14 +82,14 @@ tried =
     -- goto 1 y=2
     ∷ record {
       file = bytes 25 0x01010101E42200000000000001F4600200000000000003E800;
-      expected = ok (3, one_line 1 (head (ins₂ Op.ValueifyNum 0 0 ∷ ins₂ Op.NumberifyVal 0 1 ∷ ins₁ Op.JumpIfError 0 ∷ []) (line 1) ∷ []) (pos 1000 ∷ pos 0 ∷ pos 2000 ∷ []) 3);
+      expected = ok (3, oneLine 1 (head (ins₂ Op.ValueifyNum 0 0 ∷ ins₂ Op.NumberifyVal 0 1 ∷ ins₁ Op.JumpIfError 0 ∷ []) (line 1) ∷ []) (pos 1000 ∷ pos 0 ∷ pos 2000 ∷ []) 3);
     }
     -- goto 1 if a then end
     ∷ record {
       file = bytes 18 0x01010101842200000000000001F42C000000;
       expected = ok (
         6,
-        one_line 1
+        oneLine 1
             (head (ins₂ Op.ValueifyNum 0 0 ∷ ins₂ Op.NumberifyVal 0 1 ∷ ins₁ Op.JumpIfError 0 ∷ []) (line 1)
             ∷ inner (ins₂ Op.IsTruthyVal 1 2 ∷ []) (section 3) ∷ inner [] (section 3) ∷ inner [] (section 3) ∷ []) (pos 1000 ∷ pos 0 ∷ pos 0 ∷ []) 2,
       );

@@ -1,39 +1,40 @@
--- Document 01 as definitions that compute, in the order in which to read them.
+-- docs/FORMAT.md as definitions that compute, in the order in which to read them.
 
--- its numbers
+-- the numbers
 pub mod Constants
 pub mod Refusal
--- "Tree form"
+-- a tree file
 pub mod Bits
 pub mod Tree
 pub mod Parse
--- "Machine words"
+-- a machine and its words
 pub mod Opcode
 pub mod Instr
 pub mod Word
 pub mod Machine
 pub mod Tables
--- "Lowering": registers and each statement's own instructions, then sections
+-- lowering: registers and each statement's own instructions, then sections
 pub mod Script
 pub mod CodegenData
 pub mod Operators
 pub mod Annotate
 pub mod Assemble
--- replacement, cleaning, combining
+-- the passes: replacement, cleaning, combining
 pub mod Replace
 pub mod Clean
 pub mod Combine
 pub mod Lowered
--- "Operations and their numbers"
+-- the operations
 pub mod Operations
--- "The walk of demand 3"
+-- walking a machine, reading a tree, and that the first preserves the second
 pub mod Walk
 pub mod ReadScript
 pub mod Reading
-pub mod Demand
--- "Tried inputs"
+pub mod Preservation
+-- what finlist prints
 pub mod Listing
+-- what was tried, computed
 pub mod Examples
 pub mod OperationExamples
 pub mod WalkExamples
-pub mod DemandExamples
+pub mod PreservationExamples

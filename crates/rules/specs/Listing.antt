@@ -7,9 +7,9 @@ use Rattle.rules.specs.Word.{Span}
 use Rattle.rules.specs.Constants.{mark, finlistBytes, finlistSections, finlistInstrs, finlistNumbers}
 use Rattle.rules.specs.Refusal as Refusal
 use Rattle.rules.specs.Machine.{SectionCode, Machine}
-use Rattle.rules.specs.Tables.{Counts, flag, kind_of, target_of}
+use Rattle.rules.specs.Tables.{Counts, flag, kindOf, targetOf}
 use Rattle.rules.specs.Lowered.{defaults, finished}
-use Rattle.rules.specs.Operations.{size_of, estimate}
+use Rattle.rules.specs.Operations.{sizeOf, estimate}
 
 -- at most n decimal digits of v, in front of t
 unfoldable pub digits : ℕ → ℕ → List ℕ → List ℕ
@@ -73,9 +73,9 @@ rowsI (i ∷ is) = row 73 (nat i.op ++ nat i.fst ++ nat i.snd ++ nat i.thd) ++ r
 
 -- S section linestart kind target count, followed by its I rows
 unfoldable pub rowsS : ℕ → List SectionCode → List ℕ
-unfolding row nat flag kind_of target_of rowsI
+unfolding row nat flag kindOf targetOf rowsI
 rowsS i [] = []
-rowsS i (s ∷ ss) = row 83 (nat i ++ nat (flag s.lineStart) ++ nat (kind_of s.success) ++ nat (target_of s.success) ++ nat (length s.instrs)) ++ (rowsI s.instrs ++ rowsS (suc i) ss)
+rowsS i (s ∷ ss) = row 83 (nat i ++ nat (flag s.lineStart) ++ nat (kindOf s.success) ++ nat (targetOf s.success) ++ nat (length s.instrs)) ++ (rowsI s.instrs ++ rowsS (suc i) ss)
 
 -- M lines sections numbers strings values, then the other rows in their order
 unfoldable pub listing : Machine → List ℕ
@@ -95,8 +95,8 @@ fitsFinlist u = leb u.sections finlistSections && leb u.instrs finlistInstrs && 
 
 -- what is printed for a file
 unfoldable pub finlist : List ℕ → List ℕ
-unfolding parse size_of estimate fitsFinlist finished defaults listing refusal
+unfolding parse sizeOf estimate fitsFinlist finished defaults listing refusal
 finlist s = elim (leb (length s) finlistBytes) [
   | false ↦ refusal Refusal.tooLong
-  | true ↦ elim (parse s) [ refused n ↦ refusal n | ok t ↦ elim (fitsFinlist (estimate (size_of t))) [ false ↦ refusal Refusal.noRoom | true ↦ listing (finished defaults t) ] ]
+  | true ↦ elim (parse s) [ refused n ↦ refusal n | ok t ↦ elim (fitsFinlist (estimate (sizeOf t))) [ false ↦ refusal Refusal.noRoom | true ↦ listing (finished defaults t) ] ]
 ]

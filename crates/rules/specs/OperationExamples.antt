@@ -1,6 +1,6 @@
 -- The operations, computed: each refusal that a small input shows, and every lent word afterwards. 9 stands in the words that must stay.
 use Rattle.std.specs.Prelude.{◌≡◌, refl, List, [], ◌∷◌, ◌++◌, map, ℕ, suc, ℤ, pos, replicate}
-use Rattle.rules.specs.Constants.{mostBytes, mostCount}
+use Rattle.rules.specs.Constants.{mostBytes, mostNodes, mostCount}
 use Rattle.rules.specs.Bits.{Res, refused, ok}
 use Rattle.rules.specs.Parse.{At, expr, stmt}
 use Rattle.rules.specs.Lowered.{defaults}
@@ -10,7 +10,7 @@ use Rattle.rules.specs.Examples.{bytes}
 
 -- ---- size
 
--- a file for each refusal but 8, whose smallest file has some 2,300 bytes
+-- a file for each refusal but 8, whose smallest file has some 1,550 bytes
 unfoldable pub refusedFiles : List (List ℕ)
 unfolding bytes
 refusedFiles =
@@ -39,7 +39,7 @@ sized = refl
 
 -- behind 2,048 nodes
 unfoldable pub full : At
-full = record { pos = 0; nodes = 2048 }
+full = record { pos = 0; nodes = mostNodes }
 
 -- a node that is too deep and one too many: 7, before 8; one too many at the end of the file: 8, before its bits
 pub node-order : (expr 0 0 [] full ≡ refused 7) × (stmt 0 0 [] full ≡ refused 7) × (expr 0 1 [] full ≡ refused 8) × (stmt 0 1 [] full ≡ refused 8)
@@ -84,9 +84,9 @@ unfoldable pub short : Tables
 unfolding lent
 short = record { sections = lent.sections; instrs = replicate 17 9; numbers = lent.numbers; strings = lent.strings; pool = lent.pool; names = lent.names }
 
-pub no_room : lower defaults stringFile short ≡ (refused 11, short)
+pub no-room : lower defaults stringFile short ≡ (refused 11, short)
 unfolding lower defaults stringFile short
-no_room = refl
+no-room = refl
 
 -- ---- machines of one line without strings
 
@@ -110,9 +110,9 @@ unfoldable pub tight : Tables
 unfolding machine
 tight = machine (0x800000000000C000 ∷ 9 ∷ []) (0x5000000000000000 ∷ 0x8800000000000400 ∷ 0x0800040004000000 ∷ 9 ∷ []) (pos 5 ∷ pos 6 ∷ pos 9 ∷ [])
 
-pub no_slot : replace tight (counted 1 3 2) ≡ (refused 11, tight)
+pub no-slot : replace tight (counted 1 3 2) ≡ (refused 11, tight)
 unfolding replace tight counted
-no_slot = refl
+no-slot = refl
 
 -- IncNum, DecNum, NotNum of number 0
 unfoldable pub incDecNot : List ℕ

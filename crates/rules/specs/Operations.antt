@@ -27,16 +27,16 @@ pub record Size : Type 0 where
   pub characters : ℕ
 
 -- what is counted of a tree
-unfoldable pub size_of : Tree → Size
+unfoldable pub sizeOf : Tree → Size
 unfolding ofLines
-size_of t =
+sizeOf t =
     let c = ofLines t.lines in
     record { lines = length t.lines; names = length t.names; statements = c.statements; nodes = c.nodes; strings = c.strings; characters = c.characters }
 
 -- size of a file
 unfoldable pub size : List ℕ → Res Size
-unfolding parse size_of
-size s = elim (parse s) [ refused n ↦ refused n | ok t ↦ ok (size_of t) ]
+unfolding parse sizeOf
+size s = elim (parse s) [ refused n ↦ refused n | ok t ↦ ok (sizeOf t) ]
 
 -- ---- tables afterwards
 
@@ -81,12 +81,12 @@ holds t u =
 
 -- a tree file made into a machine in the tables: refused as size does, then 11; zeros up to the estimates, nothing beyond
 unfoldable pub build : (Tree → Machine) → List ℕ → Tables → Res Counts × Tables
-unfolding parse size_of estimate holds countsOf write
+unfolding parse sizeOf estimate holds countsOf write
 build f s t = elim (parse s) [
   | refused n ↦ (refused n, t)
-  | ok x ↦ elim (holds t (estimate (size_of x))) [
+  | ok x ↦ elim (holds t (estimate (sizeOf x))) [
     | false ↦ (refused Refusal.noRoom, t)
-    | true ↦ (let m = f x in (ok (countsOf m), write (estimate (size_of x)) m t))
+    | true ↦ (let m = f x in (ok (countsOf m), write (estimate (sizeOf x)) m t))
   ]
 ]
 
@@ -188,9 +188,9 @@ text strings pool r = let t = textSpan strings pool r in take t.size (drop t.sta
 
 -- the place as one number, for a caller to whom no part of the pool can be handed back: start × 2^32 + length; the end of a pool that is longer is said
 -- as 2^32 - 1
-abbrev pub spot_of : Span → ℕ
-spot_of t = min t.start (2 ^ spotBits - 1) * 2 ^ spotBits + t.size
+abbrev pub spotOf : Span → ℕ
+spotOf t = min t.start (2 ^ spotBits - 1) * 2 ^ spotBits + t.size
 
 unfoldable pub textSpot : List ℕ → List ℕ → ℕ → ℕ
 unfolding textSpan
-textSpot strings pool r = spot_of (textSpan strings pool r)
+textSpot strings pool r = spotOf (textSpan strings pool r)

@@ -1,5 +1,5 @@
--- The small steps of codegen.rs under their names there: what is emitted for an operator on value registers.
-use Rattle.std.specs.Prelude.{Bool, true, false, [], ℕ, pos, get_or}
+-- The small steps of codegen.rs: what is emitted for an operator on value registers.
+use Rattle.std.specs.Prelude.{Bool, true, false, ℕ, pos, get_or}
 use Rattle.std.proofs.Math.Option.{none, some}
 use Rattle.rules.specs.Tree.{Binop, Unop}
 use Rattle.rules.specs.Tree.{And, Or, Add, Sub, Mul, Div, Mod, Pow, Eq, Ne, Le, Lt, Ge, Gt}

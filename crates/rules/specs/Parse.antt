@@ -1,9 +1,9 @@
 -- The tree form: from bytes to a tree, or the refusal that comes first.
-use Rattle.std.specs.Prelude.{Bool, true, false, not, ◌&&◌, List, [], ◌∷◌, ◌++◌, ℕ, zero, suc, ◌+◌, ◌*◌, ◌-◌, ◌^◌, leb, ltb, eqb, ℤ, pos, negsuc, length, get_or}
+use Rattle.std.specs.Prelude.{Bool, true, false, not, ◌&&◌, List, [], ◌∷◌, ◌++◌, ℕ, zero, suc, ◌*◌, ◌-◌, ◌^◌, leb, ltb, eqb, ℤ, pos, negsuc, length, get_or}
 use Rattle.std.specs.Bool.{beq}
 use Rattle.std.proofs.Math.Option.{none, some}
 use Rattle.std.proofs.Math.ListN.{get_elem?}
-use Rattle.rules.specs.Constants.{mostBytes, mostDepth, mostNodes, form, head_bits, nameBits, nameLengthBits, charBits, stringLengthBits, flagBits, listBits, stmtKindBits, exprKindBits, operatorBits, assignBits, numberBits, byteBits}
+use Rattle.rules.specs.Constants.{mostBytes, mostDepth, mostNodes, form, headBits, nameBits, nameLengthBits, charBits, stringLengthBits, flagBits, listBits, stmtKindBits, exprKindBits, operatorBits, assignBits, numberBits, byteBits}
 use Rattle.rules.specs.Refusal as Refusal
 use Rattle.rules.specs.Bits.{Res, refused, ok, field, isOne}
 use Rattle.rules.specs.Tree.{Name, Tree, Binop, Unop, Assignop, Expr, Block}
@@ -87,9 +87,9 @@ unfoldable pub assignops : List Assignop
 assignops = Plain ∷ AddTo ∷ SubTo ∷ MulTo ∷ DivTo ∷ ModTo ∷ PowTo ∷ []
 
 -- a name's number, of n names: 5 where the table has it not
-unfoldable pub name_of : ℕ → Reader ℕ
+unfoldable pub nameOf : ℕ → Reader ℕ
 unfolding bits succeed demand ◌>>=◌
-name_of n = do
+nameOf n = do
   x ← bits nameBits
   _ ← demand (ltb x n) Refusal.unknownName
   succeed x
@@ -116,21 +116,21 @@ unopOf r = do
   succeed (unop o a)
 
 unfoldable pub incdecOf : ℕ → Reader Expr
-unfolding bits name_of isOne succeed ◌>>=◌
+unfolding bits nameOf isOne succeed ◌>>=◌
 incdecOf n = do
   i ← bits flagBits
-  x ← name_of n
+  x ← nameOf n
   succeed (Expr.incdec (isOne i) x)
 
 unfoldable pub identOf : ℕ → Reader Expr
-unfolding name_of succeed ◌>>=◌
+unfolding nameOf succeed ◌>>=◌
 identOf n = do
-  x ← name_of n
+  x ← nameOf n
   succeed (ident x)
 
-unfoldable pub number_of : Reader Expr
+unfoldable pub numberOf : Reader Expr
 unfolding bits signed succeed ◌>>=◌
-number_of = do
+numberOf = do
   v ← bits numberBits
   succeed (number (signed v))
 
@@ -142,8 +142,8 @@ stringOf = do
   succeed (string t)
 
 unfoldable pub exprKinds : ℕ → Reader Expr → List (Reader Expr)
-unfolding binopOf unopOf incdecOf identOf number_of stringOf
-exprKinds n r = binopOf r ∷ unopOf r ∷ incdecOf n ∷ identOf n ∷ number_of ∷ stringOf ∷ []
+unfolding binopOf unopOf incdecOf identOf numberOf stringOf
+exprKinds n r = binopOf r ∷ unopOf r ∷ incdecOf n ∷ identOf n ∷ numberOf ∷ stringOf ∷ []
 
 unfoldable pub gotoOf : Reader Expr → Reader (Block → Block)
 unfolding succeed ◌>>=◌
@@ -161,24 +161,24 @@ iteOf r q = do
   e ← block j q
   succeed (ite c t e)
 
-unfoldable pub step_of : ℕ → Reader (Block → Block)
-unfolding bits name_of isOne succeed ◌>>=◌
-step_of n = do
+unfoldable pub stepOf : ℕ → Reader (Block → Block)
+unfolding bits nameOf isOne succeed ◌>>=◌
+stepOf n = do
   i ← bits flagBits
-  x ← name_of n
+  x ← nameOf n
   succeed (Block.incdec (isOne i) x)
 
 unfoldable pub assignOf : ℕ → Reader Expr → Reader (Block → Block)
-unfolding name_of operator assignops succeed ◌>>=◌
+unfolding nameOf operator assignops succeed ◌>>=◌
 assignOf n r = do
-  x ← name_of n
+  x ← nameOf n
   o ← operator assignBits assignops
   e ← r
   succeed (assign x o e)
 
 unfoldable pub stmtKinds : ℕ → Reader Expr → Reader (Block → Block) → List (Reader (Block → Block))
-unfolding gotoOf iteOf step_of assignOf
-stmtKinds n r q = gotoOf r ∷ iteOf r q ∷ step_of n ∷ assignOf n r ∷ []
+unfolding gotoOf iteOf stepOf assignOf
+stmtKinds n r q = gotoOf r ∷ iteOf r q ∷ stepOf n ∷ assignOf n r ∷ []
 
 -- ---- nodes; d is the depth that is left
 
@@ -207,15 +207,15 @@ sameChars (a ∷ s) [] = false
 sameChars (a ∷ s) (b ∷ t) = eqb a b && sameChars s t
 
 -- names are the same if flag and characters are
-unfoldable pub same_name : Name → Name → Bool
+unfoldable pub sameName : Name → Name → Bool
 unfolding sameChars
-same_name x y = beq x.isGlobal y.isGlobal && sameChars x.chars y.chars
+sameName x y = beq x.isGlobal y.isGlobal && sameChars x.chars y.chars
 
 -- is the name among these?
 unfoldable pub known : Name → List Name → Bool
-unfolding same_name
+unfolding sameName
 known x [] = false
-known x (y ∷ ys) = elim (same_name x y) [ true ↦ true | false ↦ known x ys ]
+known x (y ∷ ys) = elim (sameName x y) [ true ↦ true | false ↦ known x ys ]
 
 unfoldable pub name : Reader Name
 unfolding bits isOne many succeed ◌>>=◌
@@ -266,9 +266,9 @@ body l n = do
 unfoldable pub file : Reader Tree
 unfolding bits demand body ◌>>=◌
 file = do
-  f ← bits head_bits
+  f ← bits headBits
   _ ← demand (eqb f form) Refusal.otherForm
-  l ← bits head_bits
+  l ← bits headBits
   _ ← demand (ltb 0 l) Refusal.zeroLines
   n ← bits nameBits
   body l n

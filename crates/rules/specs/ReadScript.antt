@@ -19,8 +19,8 @@ thenOn l (erred os) f = (l, erred os)
 thenOn l (gone n os) f = (l, gone n os)
 thenOn l (stop q) f = (l, stop q)
 
-abbrev pub and_then : List Instruction × Out → (List ℕ → List Instruction × Out) → List Instruction × Out
-and_then x f = thenOn x.0 x.1 f
+abbrev pub andThen : List Instruction × Out → (List ℕ → List Instruction × Out) → List Instruction × Out
+andThen x f = thenOn x.0 x.1 f
 
 -- ---- a statement's own instructions
 
@@ -55,9 +55,9 @@ readCond t c rt rf os = elim (isNil t) [ true ↦ rf os | false ↦ readIf c rt 
 -- a list of statements; what stands behind a goto is not read, behind either list of an ite comes what follows it
 abbrev pub read : Stmts → List ℕ → List Instruction × Out
 read nil os = ([], behind os)
-read (plain o s) os = and_then (readOwn o os) (read s)
-read (goto o r s) os = and_then (readOwn o os) (readGoto r)
-read (ite o c t f s) os = and_then (and_then (readOwn o os) (readCond t c (read t) (read f))) (read s)
+read (plain o s) os = andThen (readOwn o os) (read s)
+read (goto o r s) os = andThen (readOwn o os) (readGoto r)
+read (ite o c t f s) os = andThen (andThen (readOwn o os) (readCond t c (read t) (read f))) (read s)
 
 -- ---- lines; a step reads one line
 

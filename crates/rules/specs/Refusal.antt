@@ -39,7 +39,7 @@ tooManyNodes = 8
 abbrev pub leftOver : ℕ
 leftOver = 9
 
--- the file is longer than 32,768 bytes
+-- the file is longer than is read: 32,768 bytes, 8,192 by finlist
 abbrev pub tooLong : ℕ
 tooLong = 10
 

@@ -1,5 +1,5 @@
 -- Replacement of duplicate operands, `dup_replace_with`: of instructions whose first two fields are one register.
-use Rattle.std.specs.Prelude.{Bool, true, false, List, [], ◌∷◌, ◌++◌, ℕ, suc, ◌+◌, eqb, ℤ, pos, length}
+use Rattle.std.specs.Prelude.{Bool, true, false, List, [], ◌∷◌, ◌++◌, ℕ, eqb, ℤ, pos, length}
 use Rattle.rules.specs.Instr.{Instruction, ins₁, ins₂}
 use Rattle.rules.specs.Word.{Span}
 use Rattle.rules.specs.Opcode as Op
@@ -75,8 +75,8 @@ replaceCode p r (i ∷ c) =
     (x.0 ++ y.0, y.1)
 
 -- a section with other instructions
-abbrev pub with_code : SectionCode → List Instruction → SectionCode
-with_code s c = record { lineStart = s.lineStart; instrs = c; success = s.success }
+abbrev pub withCode : SectionCode → List Instruction → SectionCode
+withCode s c = record { lineStart = s.lineStart; instrs = c; success = s.success }
 
 -- sections in order
 abbrev pub replaceSections : ℕ → Regs → List SectionCode → List SectionCode × Regs
@@ -84,7 +84,7 @@ replaceSections p r [] = ([], r)
 replaceSections p r (s ∷ m) =
     let x = replaceCode p r s.instrs in
     let y = replaceSections p x.1 m in
-    (with_code s x.0 ∷ y.0, y.1)
+    (withCode s x.0 ∷ y.0, y.1)
 
 -- a machine
 unfoldable pub replaced : Machine → Machine

@@ -5,7 +5,7 @@ use Rattle.rules.specs.Constants.{mark, mostLines, mostCount}
 use Rattle.rules.specs.Refusal as Refusal
 use Rattle.rules.specs.Bits.{Res, refused, ok, isOne}
 use Rattle.rules.specs.Instr.{Instruction, Kind, unused, num, str, val, place, kinds}
-use Rattle.rules.specs.Word.{insWord, wordIns, insSpare, Run, runWord, wordRun, runSpare, Span, spanWord, wordSpan, spanSpare}
+use Rattle.rules.specs.Word.{insWord, wordIns, insSpare, Run, runWord, wordRun, runSpare, spanWord, wordSpan, spanSpare}
 use Rattle.rules.specs.Machine.{SectionOrLine, unfixed, section, line, SectionCode, isFixed, Machine}
 
 -- the tables that a caller lends
@@ -145,19 +145,19 @@ flag true = 1
 flag false = 0
 
 -- a successor's kind and target
-unfoldable pub kind_of : SectionOrLine → ℕ
-kind_of (section t) = 0
-kind_of (line n) = 1
-kind_of unfixed = 0
+unfoldable pub kindOf : SectionOrLine → ℕ
+kindOf (section t) = 0
+kindOf (line n) = 1
+kindOf unfixed = 0
 
-unfoldable pub target_of : SectionOrLine → ℕ
-target_of (section t) = t
-target_of (line n) = n
-target_of unfixed = mark
+unfoldable pub targetOf : SectionOrLine → ℕ
+targetOf (section t) = t
+targetOf (line n) = n
+targetOf unfixed = mark
 
 -- the fields of a section's word: whether it starts a line, its successor, and count instructions from number first on
 abbrev pub runOf : Bool → SectionOrLine → ℕ → ℕ → Run
-runOf starts success first count = record { lineStart = flag starts; kind = kind_of success; target = target_of success; first = first; count = count }
+runOf starts success first count = record { lineStart = flag starts; kind = kindOf success; target = targetOf success; first = first; count = count }
 
 -- of a section whose first instruction is number k
 abbrev pub sectionRun : SectionCode → ℕ → Run
@@ -165,7 +165,7 @@ sectionRun s k = runOf s.lineStart s.success k (length s.instrs)
 
 -- sections' words, the first of which begins at instruction k
 unfoldable pub runWords : ℕ → List SectionCode → List ℕ
-unfolding flag kind_of target_of runWord
+unfolding flag kindOf targetOf runWord
 runWords k [] = []
 runWords k (s ∷ ss) = runWord (sectionRun s k) ∷ runWords (k + length s.instrs) ss
 

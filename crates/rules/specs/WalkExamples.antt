@@ -109,7 +109,7 @@ pub three-walked : walkSections (combineSections (cleanSections (sectionsOf thre
 unfolding threeLines outcomes expected sectionsOf cleanSections combineSections
 three-walked = refl
 
--- the else-list, and behind the ite; an error; then a goto
+-- the else-list, and behind the ite; an error; then an error jump without an outcome
 unfoldable pub expected' : Trace
 expected' = (inc 1 ∷ err ∷ ins₂ Op.JumpSectionIf 0 3 ∷ inc 5 ∷ inc 6 ∷ inc 7 ∷ err ∷ inc 8 ∷ inc 1 ∷ err ∷ inc 7 ∷ err ∷ [], over (ask (atJump err)))
 

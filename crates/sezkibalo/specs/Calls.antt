@@ -1,4 +1,4 @@
--- What each call through the static library answers, and what is lent afterwards: document 01's operations with plain numbers. 0 is an
+-- What each call through the static library answers, and what is lent afterwards: the operations of docs/FORMAT.md with plain numbers. 0 is an
 -- answer that does not refuse. Text answers `textSpot` of rules.
 use Rattle.std.specs.Prelude.{true, false, List, [], ◌∷◌, ◌++◌, ℕ, ◌/◌, ◌%◌, ltb, eqb, length, drop, get_or}
 use Rattle.rules.specs.Refusal as Refusal

@@ -7,7 +7,8 @@
 pub mod build;
 pub mod counts;
 
-ghost use Rattle.std.specs.Prelude.{◌≡◌, ◌<◌};
+ghost use Rattle.rules.specs.Constants.{mostChars};
+ghost use Rattle.std.specs.Prelude.{◌≡◌, ◌≤◌};
 ghost use Rattle.rules.specs.Operations as Operations;
 ghost use Rattle.words.specs.Runs.{span};
 ghost use Rattle.tables.specs.Lent.{tables};
@@ -28,8 +29,8 @@ const MOST_START: usize = 4294967295;
 
 // A start and a length in one number.
 fn spot(start: usize, length: usize) -> u64
-    requires { length < 128 }
-    ensures { result ≡ Operations.spot_of (span start length) }
+    requires { length ≤ mostChars }
+    ensures { result ≡ Operations.spotOf (span start length) }
 {
     if start > MOST_START {
         return MOST_START as u64 * 4294967296 + length as u64;

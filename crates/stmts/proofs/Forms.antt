@@ -9,9 +9,9 @@ use Rattle.rules.specs.Operators.{getVariable, makeTruthy, numberify}
 use Rattle.rules.specs.Annotate.{codegenFromExpr, store, assignBy, codegenFromAssign, condition, lineNumber}
 use Rattle.codegen.specs.Does.{◌▷◌}
 
-pub as_store : (m : Lower ℕ) (v : ℕ) → store m v ≡ (m ▷ λ o. emit (ins₂ Op.CopyVal o v))
+pub as-store : (m : Lower ℕ) (v : ℕ) → store m v ≡ (m ▷ λ o. emit (ins₂ Op.CopyVal o v))
 unfolding store ◌▷◌
-as_store m v = refl
+as-store m v = refl
 
 pub as-assign : (x : ℕ) (o : Assignop) (e : Expr) → codegenFromAssign x o e ≡ (codegenFromExpr e ▷ λ r. getVariable x ▷ λ v. assignBy o v r)
 unfolding codegenFromAssign ◌▷◌
@@ -21,6 +21,6 @@ pub as-condition : (e : Expr) → condition e ≡ (codegenFromExpr e ▷ λ r. m
 unfolding condition ◌▷◌
 as-condition e = refl
 
-pub as_line : (e : Expr) → lineNumber e ≡ (codegenFromExpr e ▷ λ r. numberify r)
+pub as-line : (e : Expr) → lineNumber e ≡ (codegenFromExpr e ▷ λ r. numberify r)
 unfolding lineNumber ◌▷◌
-as_line e = refl
+as-line e = refl

@@ -1,9 +1,9 @@
 -- Lists of statements: the first one, and the others. Assumes nothing.
 use mathlib.Core.Path.{◌≡◌, refl, sym, ap, ◌∙◌}
 use mathlib.Core.Bool.{Bool, true, false, cond}
-use mathlib.Core.List.{List, [], ◌∷◌, ◌++◌, map, append_assoc}
+use mathlib.Core.List.{List, [], ◌∷◌, ◌++◌, map, append_assoc, append-nil}
 use Prim.Native.Nat.{ℕ, suc, ◌+◌, ◌-◌, ◌≤◌, max}
-use native.Mathlib.Nat.{add-zero, add_assoc}
+use native.Mathlib.Nat.{add-zero}
 use native.Mathlib.Numerals.{add-one}
 use native.Mathlib.Omega.{arith}
 use lib.ListN.{length, set, length-append}
@@ -12,7 +12,7 @@ use Rattle.rules.specs.Tree.{Block, end, ite, assign, Tally, both}
 use Rattle.rules.specs.Machine.{SectionOrLine, section, SectionCode}
 use Rattle.rules.specs.Tables.{runWords, allCode, runOf}
 use Rattle.rules.specs.Script.{Stmts, nil, plain, isNil}
-use Rattle.rules.specs.Assemble.{orOne, sectionsMade, entry, link, inner, orEmpty, stmtSections, ownCode, cond_code}
+use Rattle.rules.specs.Assemble.{orOne, sectionsMade, entry, link, inner, orEmpty, stmtSections, ownCode, condCode}
 use Rattle.rules.specs.CodegenData.{CodegenData, scoped}
 use Rattle.rules.specs.Annotate.{annotateStmts, condition}
 use Rattle.bounds.specs.Lengths.{length-low}
@@ -20,46 +20,28 @@ use Rattle.nodes.specs.Width.{width, orOne as orOneN}
 use Rattle.codegen.specs.declared.state.Counters.{Counters}
 use Rattle.codegen.specs.Does.{Lent}
 use Rattle.laws.specs.Stores.{sets-sets}
-use Rattle.codegen.proofs.Lists.{map-append, length-map}
+use Rattle.laws.specs.Sections.{code-append, words-append, words-length}
+use Rattle.std.proofs.lemmas.List.{map-append, length-map}
 use Rattle.stmts.specs.Makes.{Stored}
 use Rattle.stmts.specs.Lists.{Wrote, only, rest, before, onward, onwardB, isEnd, Single, Lists, Branch, GrewAll}
 
-pub append-nil : {A : Type 0} (l : List A) → l ++ [] ≡ l
-append-nil [] = refl
-append-nil (x ∷ l) = ap (λ m. x ∷ m) (append-nil l)
-
 -- ---- sections in the tables
 
-pub all_append : (a b : List SectionCode) → allCode (a ++ b) ≡ allCode a ++ allCode b
-unfolding allCode
-all_append [] b = refl
-all_append (s ∷ a) b = rw (all_append a b, append_assoc)
-
-pub runs_append : (k : ℕ) (a b : List SectionCode) → runWords k (a ++ b) ≡ runWords k a ++ runWords (k + length (allCode a)) b
-unfolding runWords allCode
-runs_append k [] b = rw add-zero
-runs_append k (s ∷ a) b = rw (runs_append (k + length s.instrs) a b, length-append, add_assoc)
-
-pub runs-length : (k : ℕ) (a : List SectionCode) → length (runWords k a) ≡ length a
-unfolding runWords
-runs-length k [] = refl
-runs-length k (s ∷ a) = ap suc (runs-length (k + length s.instrs) a)
-
-pub wrote_none : {n k : ℕ} {is se : List ℕ} → Wrote [] n k k is is se se
+pub wrote-none : {n k : ℕ} {is se : List ℕ} → Wrote [] n k k is is se se
 unfolding allCode runWords
-wrote_none {k = k} = record { code = refl; ends = sym (add-zero k); words = refl }
+wrote-none {k = k} = record { code = refl; ends = sym (add-zero k); words = refl }
 
-pub wrote_one : {s : SectionCode} {n k k' : ℕ} {is is' se se' : List ℕ} → Stored s n k k' is is' se se' → Wrote (s ∷ []) n k k' is is' se se'
+pub wrote-one : {s : SectionCode} {n k k' : ℕ} {is is' se se' : List ℕ} → Stored s n k k' is is' se se' → Wrote (s ∷ []) n k k' is is' se se'
 unfolding allCode runWords
-wrote_one {s} r = record { code = rw append-nil r.code; ends = rw append-nil r.ends; words = r.word }
+wrote-one {s} r = record { code = rw append-nil r.code; ends = rw append-nil r.ends; words = r.word }
 
 -- one run of sections behind another
 pub wrote-more : {a b : List SectionCode} {n n1 k k1 k2 : ℕ} {is is1 is2 se se1 se2 : List ℕ} → Wrote a n k k1 is is1 se se1 → n1 ≡ n + length a → Wrote b n1 k1 k2 is1 is2 se1 se2 → Wrote (a ++ b) n k k2 is is2 se se2
 wrote-more {a} {b} {n} {n1} {k} {k1} {k2} {is} {is1} {is2} {se} {se1} {se2} x e y =
     record {
-      code = rw (y.code, x.code, x.ends, all_append, map-append, ← length-map insWord (allCode a)) (sets-sets (map insWord (allCode a)) is k (map insWord (allCode b)));
-      ends = rw (all_append, length-append) (omega (arith, x.ends, y.ends));
-      words = rw (y.words, x.words, e, x.ends, runs_append, ← runs-length k a) (sets-sets (runWords k a) se n (runWords (k + length (allCode a)) b));
+      code = rw (y.code, x.code, x.ends, code-append, map-append, ← length-map (allCode a) insWord) (sets-sets (map insWord (allCode a)) is k (map insWord (allCode b)));
+      ends = rw (code-append, length-append) (omega (arith, x.ends, y.ends));
+      words = rw (y.words, x.words, e, x.ends, words-append, ← words-length k a) (sets-sets (runWords k a) se n (runWords (k + length (allCode a)) b));
     }
 
 -- ---- how far the counters go: two parts of the tree, one after the other
@@ -93,7 +75,7 @@ sections-first l e n k (Stmts.ite c r t f z) s h =
     let nf = suc n + orOne t (sectionsMade t) in
     let nj = nf + orOne f (sectionsMade f) in
     rw (h, q)
-    (shape (inner (ownCode e c ++ cond_code t r (suc n)) (section nf)) (orEmpty t nj (stmtSections true e (suc n) nj t)) (orEmpty f nj (stmtSections true e nf nj f))
+    (shape (inner (ownCode e c ++ condCode t r (suc n)) (section nf)) (orEmpty t nj (stmtSections true e (suc n) nj t)) (orEmpty f nj (stmtSections true e nf nj f))
     (inner [] (link l (entry s (suc nj) k))) (stmtSections l e (suc nj) k s))
 
 pub single : (x : Block) (g : CodegenData) → isEnd x ≡ false → Single (annotateStmts (only x) g).0
@@ -161,7 +143,7 @@ or-width x g = one-or x _ _ (nil-same x g) (made-width x g)
 
 pub lists-none : {m : ℕ} {l : Bool} {n k : ℕ} {c : Counters} {t : Lent} {se : List ℕ} → Lists m end l n k c t t se se c
 unfolding annotateStmts
-lists-none = record { from = λ e b g q. record { regs = q; wrote = wrote_none } }
+lists-none = record { from = λ e b g q. record { regs = q; wrote = wrote-none } }
 
 -- a statement, then the others: its last section goes on to them, or where the list is left to
 pub lists-more : {m : ℕ} (x : Block) {l : Bool} {n n' h k : ℕ} {l' : Bool} {c c1 c2 : Counters} {t t1 t2 : Lent} {se se1 se2 : List ℕ}
@@ -193,7 +175,7 @@ stored-empty {n = n} {k = k} {se = se} p q =
 
 pub branch-empty : {m n j : ℕ} {c : Counters} {t : Lent} {se se' : List ℕ} → Stored (inner [] (section j)) n c.at c.at t.instrs t.instrs se se' → Branch m end n j c t t se se' c
 unfolding annotateStmts
-branch-empty s = record { from = λ e b g q. record { regs = q; wrote = wrote_one s } }
+branch-empty s = record { from = λ e b g q. record { regs = q; wrote = wrote-one s } }
 
 pub branch-list : {m : ℕ} (x : Block) {n j : ℕ} {c c' : Counters} {t t' : Lent} {se se' : List ℕ} → isEnd x ≡ false → Lists m x true n j c t t' se se' c' → Branch m x n j c t t' se se' c'
 branch-list x {n} {j} {c} {c'} {t} {t'} {se} {se'} h d =

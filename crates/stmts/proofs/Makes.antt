@@ -20,7 +20,7 @@ use Rattle.stmts.specs.Told.{assignCost}
 use Rattle.codegen.specs.declared.state.Counters.{Counters}
 use Rattle.codegen.specs.Does.{wordTo, Lent, lent, Base, Stands, Does}
 use Rattle.laws.specs.Stores.{sets-sets}
-use Rattle.codegen.proofs.Lists.{map-append, length-map}
+use Rattle.std.proofs.lemmas.List.{map-append, length-map}
 use Rattle.stmts.specs.Makes.{Regs, nothing, Makes, placed, jump, jumpCost}
 
 -- ---- in and out of a statement
@@ -77,7 +77,7 @@ own-words e (i ∷ o) = ap (λ l. wordTo e i ∷ l) (own-words e o)
 
 -- own instructions, and behind them d
 behind : (e k : ℕ) (o d : List Instruction) (is is1 is' : List ℕ) (k1 : ℕ) → is1 ≡ sets is k (map (wordTo e) o) → k1 ≡ k + length o → is' ≡ sets is1 k1 (map insWord d) → is' ≡ sets is k (map insWord (ownCode e o ++ d))
-behind e k o d is is1 is' k1 p q r = rw (r, p, q, map-append, own-words, ← length-map (wordTo e) o) (sets-sets (map (wordTo e) o) is k (map insWord d))
+behind e k o d is is1 is' k1 p q r = rw (r, p, q, map-append, own-words, ← length-map o (wordTo e)) (sets-sets (map (wordTo e) o) is k (map insWord d))
 
 own-length : (e : ℕ) (o d : List Instruction) → length (ownCode e o ++ d) ≡ length o + length d
 own-length e o d = rw (length-append, length-map)

@@ -1,7 +1,7 @@
 -- The sections of a statement are its own and those of the lists that it holds. Assumes nothing.
 use mathlib.Core.Path.{◌≡◌, refl, sym, ap, ◌∙◌}
 use mathlib.Core.Bool.{Bool, true, false}
-use mathlib.Core.List.{List, [], ◌∷◌, ◌++◌}
+use mathlib.Core.List.{List, [], ◌∷◌, ◌++◌, append-nil}
 use Prim.Native.Nat.{ℕ, suc, ◌+◌}
 use native.Mathlib.Numerals.{add-one}
 use native.Mathlib.Omega.{arith}
@@ -22,7 +22,7 @@ use Rattle.codegen.specs.Does.{Lent}
 use Rattle.stmts.specs.Makes.{Makes, Stored, made, nothing, jump}
 use Rattle.stmts.specs.Lists.{only, isEnd, Lists, Branch}
 use Rattle.stmts.specs.Parts.{own, ownSection, bare, inside, insideSections, insideTally, Owns, Insides}
-use Rattle.stmts.proofs.Lists.{append-nil, wrote_none, wrote_one, wrote-more, nil-same, or-width}
+use Rattle.stmts.proofs.Lists.{wrote-none, wrote-one, wrote-more, nil-same, or-width}
 
 -- ---- what the parts count
 
@@ -40,13 +40,13 @@ one-parts (Block.incdec i x xs) = record { nodes = omega arith; strings = omega 
 one-parts (assign x o e xs) = record { nodes = omega arith; strings = omega arith; characters = omega arith }
 
 -- what is no Ite holds nothing
-pub none_inside : (x : Block) → (tag x + 8 ≡ iteKind → ⊥) → ((insideTally x).strings ≡ 0) × ((insideTally x).characters ≡ 0)
+pub none-inside : (x : Block) → (tag x + 8 ≡ iteKind → ⊥) → ((insideTally x).strings ≡ 0) × ((insideTally x).characters ≡ 0)
 unfolding insideTally tag emptyTally
-none_inside end h = (refl, refl)
-none_inside (Block.goto e xs) h = (refl, refl)
-none_inside (ite v x y xs) h = absurd (h refl)
-none_inside (Block.incdec i x xs) h = (refl, refl)
-none_inside (assign x o e xs) h = (refl, refl)
+none-inside end h = (refl, refl)
+none-inside (Block.goto e xs) h = (refl, refl)
+none-inside (ite v x y xs) h = absurd (h refl)
+none-inside (Block.incdec i x xs) h = (refl, refl)
+none-inside (assign x o e xs) h = (refl, refl)
 
 pub record IteInside (x y b : Block) : Type 0 where
   pub nodes : (insideTally b).nodes ≡ (ofBlock x).nodes + (ofBlock y).nodes
@@ -81,11 +81,11 @@ owns-ite v x y p q r a = record { from = λ e b g s. let u = (rw (q, r, p) at a)
 
 pub inside-none : {m : ℕ} (x : Block) {l : Bool} {n k : ℕ} {c : Counters} {t : Lent} {se : List ℕ} → (tag x + 8 ≡ iteKind → ⊥) → Insides m x l n k c t t se se c
 unfolding inside insideSections tag
-inside-none end h = record { from = λ e b g q. record { regs = q; wrote = wrote_none } }
-inside-none (Block.goto v xs) h = record { from = λ e b g q. record { regs = q; wrote = wrote_none } }
+inside-none end h = record { from = λ e b g q. record { regs = q; wrote = wrote-none } }
+inside-none (Block.goto v xs) h = record { from = λ e b g q. record { regs = q; wrote = wrote-none } }
 inside-none (ite v x y xs) h = absurd (h refl)
-inside-none (Block.incdec i x xs) h = record { from = λ e b g q. record { regs = q; wrote = wrote_none } }
-inside-none (assign x o v xs) h = record { from = λ e b g q. record { regs = q; wrote = wrote_none } }
+inside-none (Block.incdec i x xs) h = record { from = λ e b g q. record { regs = q; wrote = wrote-none } }
+inside-none (assign x o v xs) h = record { from = λ e b g q. record { regs = q; wrote = wrote-none } }
 
 pub inside-ite : {m : ℕ} (v : Expr) (x y : Block) {l : Bool} {n n1 k nf nj : ℕ} {c c1 c2 : Counters} {t t1 t2 : Lent} {se se1 se2 se3 : List ℕ}
     → n1 ≡ suc n → nf ≡ n1 + orOneN (width x) → nj ≡ nf + orOneN (width y)
@@ -106,7 +106,7 @@ inside-ite v x y {l} {n} {n1} {k} {nf} {nj} o p q u w s =
             regs = w1.regs;
             wrote = rw (← o, ← p, ← q)
                 (wrote-more u1.wrote (sym p1 ∙ ap (λ (i : ℕ). n1 + i) (sym (length-orEmpty s1 nj (stmtSections true e n1 nj s1) (length-low true e n1 nj s1))))
-                (wrote-more w1.wrote (sym q1 ∙ ap (λ (i : ℕ). nf + i) (sym (length-orEmpty s2 nj (stmtSections true e nf nj s2) (length-low true e nf nj s2)))) (wrote_one s)));
+                (wrote-more w1.wrote (sym q1 ∙ ap (λ (i : ℕ). nf + i) (sym (length-orEmpty s2 nj (stmtSections true e nf nj s2) (length-low true e nf nj s2)))) (wrote-one s)));
           };
     }
 
@@ -147,5 +147,5 @@ lists-one x {l} {n} {k} h s a i =
           let v = i.from e b (own x g).1 u.regs in
           let ss : stmtSections l e n k (annotateStmts x g).0 ≡ (ownSection false l e n k x (own x g).0 ∷ []) ++ insideSections l e n k x (inside x (own x g).1).0 = rw h at (own-sections l e n k x g s) in
           let gs : (annotateStmts x g).1 ≡ (inside x (own x g).1).1 = rw h at (own-state x g) in
-          record { regs = rw gs v.regs; wrote = rw ss (wrote-more (wrote_one u.stored) (sym (add-one n)) v.wrote) };
+          record { regs = rw gs v.regs; wrote = rw ss (wrote-more (wrote-one u.stored) (sym (add-one n)) v.wrote) };
     }

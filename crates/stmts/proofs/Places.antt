@@ -11,15 +11,15 @@ use Rattle.rules.specs.Constants.{mostBytes, mostNames}
 use Rattle.rules.specs.Bits.{isOne}
 use Rattle.rules.specs.Tree.{Block, end, goto, ite, assign, Expr, Assignop, PowTo, ofBlock, ofExpr, statement, node, both, emptyTally}
 use Rattle.rules.specs.Parse.{assignops}
-use Rattle.nodes.specs.Words.{iteKind, gotoKind, stepKind, assignKind}
+use Rattle.nodes.specs.Words.{iteKind, gotoKind, stepKind, assignKind, elseCount, elseWidth, kindIn, lastIn, nameIn, opIn, widthIn}
 use Rattle.nodes.specs.Width.{width, orOne}
 use Rattle.nodes.specs.Holds.{HoldsE, HoldsB, at-end, at-goto, at-ite, at-step, at-assign}
 use Rattle.nodes.proofs.Words.{unpacked}
 use Rattle.nodes.proofs.Table.{grows, grows-b}
 use Rattle.nodes.proofs.Exprs.{op-small}
 use Rattle.nodes.proofs.Blocks.{is-end, is-goto, is-ite, is-step, is-assign, tag, kind-held}
-use Rattle.codegen.proofs.Lists.{found}
-use Rattle.exprs.proofs.Trees.{last-held}
+use Rattle.laws.specs.Lists.{at-elem}
+use Rattle.exprs.proofs.Trees.{last-held, begins, ends}
 use Rattle.stmts.specs.Lists.{isEnd, entryBy, deep}
 
 -- ---- entries
@@ -39,16 +39,10 @@ empty-same {n = n} (at-ite c d v u p w f q e x y xs) = ne_eqb n 0 (λ z. omega a
 empty-same {n = n} (at-step b f x p q g xs) = ne_eqb n 0 (λ z. omega arith)
 empty-same {n = n} (at-assign x op o p f w q r e xs) = ne_eqb n 0 (λ z. omega arith)
 
-pub not_end : {t s : List ℕ} {m n l z : ℕ} {y : Block} → HoldsB t s m n l y z → (n ≡ 0 → ⊥) → isEnd y ≡ false
-not_end {n = n} q h = sym (empty-same q) ∙ ne_eqb n 0 h
+pub not-end : {t s : List ℕ} {m n l z : ℕ} {y : Block} → HoldsB t s m n l y z → (n ≡ 0 → ⊥) → isEnd y ≡ false
+not-end {n = n} q h = sym (empty-same q) ∙ ne_eqb n 0 h
 
 -- ---- one statement, by its word
-
-begins : {t s : List ℕ} {m i i' j : ℕ} {e : Expr} → i ≡ i' → HoldsE t s m i e j → HoldsE t s m i' e j
-begins p h = rw p at h
-
-ends : {t s : List ℕ} {m i j j' : ℕ} {e : Expr} → j ≡ j' → HoldsE t s m i e j → HoldsE t s m i e j'
-ends p h = rw p at h
 
 held : {t s : List ℕ} {m n n' i i' z z' : ℕ} {x : Block} → n ≡ n' → i ≡ i' → z ≡ z' → HoldsB t s m n i x z → HoldsB t s m n' i' x z'
 held p q r h = rw (p, q, r) at h
@@ -58,7 +52,7 @@ pub record GotoAt (t s : List ℕ) (m i : ℕ) (x : Block) (z : ℕ) : Type 0 wh
   pub is : x ≡ goto e end
   pub to : HoldsE t s m (i + 1) e z
 
-pub goto-at : {t s : List ℕ} {m i z : ℕ} {x : Block} → HoldsB t s m 1 i x z → get_or t i 0 % 16 ≡ gotoKind → GotoAt t s m i x z
+pub goto-at : {t s : List ℕ} {m i z : ℕ} {x : Block} → HoldsB t s m 1 i x z → kindIn (get_or t i 0) ≡ gotoKind → GotoAt t s m i x z
 goto-at h k =
     let b = is-goto (omega arith) h k in
     let c = b.count in
@@ -66,10 +60,10 @@ goto-at h k =
     record { e = b.e; is = b.is ∙ ap (goto b.e) f.is; to = ends f.here (begins b.next b.to) }
 
 pub record StepAt (t : List ℕ) (m i : ℕ) (x : Block) : Type 0 where
-  pub is : x ≡ Block.incdec (isOne (get_or t i 0 / 16 % 16)) (get_or t i 0 / 256 % 256) end
-  pub known : get_or t i 0 / 256 % 256 < m
+  pub is : x ≡ Block.incdec (isOne (opIn (get_or t i 0))) (nameIn (get_or t i 0)) end
+  pub known : nameIn (get_or t i 0) < m
 
-pub step-at : {t s : List ℕ} {m i z : ℕ} {x : Block} → m ≤ mostNames → HoldsB t s m 1 i x z → get_or t i 0 % 16 ≡ stepKind → StepAt t m i x
+pub step-at : {t s : List ℕ} {m i z : ℕ} {x : Block} → m ≤ mostNames → HoldsB t s m 1 i x z → kindIn (get_or t i 0) ≡ stepKind → StepAt t m i x
 step-at a h k =
     let b = is-step (omega arith) h k in
     let c = b.count in
@@ -80,12 +74,12 @@ step-at a h k =
 
 pub record AssignAt (t s : List ℕ) (m i : ℕ) (x : Block) (z : ℕ) : Type 0 where
   pub e : Expr
-  pub is : x ≡ assign (get_or t i 0 / 256 % 256) (get_or assignops (get_or t i 0 / 16 % 16) PowTo) e end
-  pub known : get_or t i 0 / 256 % 256 < m
-  pub small : get_or t i 0 / 16 % 16 < 7
+  pub is : x ≡ assign (nameIn (get_or t i 0)) (get_or assignops (opIn (get_or t i 0)) PowTo) e end
+  pub known : nameIn (get_or t i 0) < m
+  pub small : opIn (get_or t i 0) < 7
   pub value : HoldsE t s m (i + 1) e z
 
-pub assign-at : {t s : List ℕ} {m i z : ℕ} {x : Block} → m ≤ mostNames → HoldsB t s m 1 i x z → get_or t i 0 % 16 ≡ assignKind → AssignAt t s m i x z
+pub assign-at : {t s : List ℕ} {m i z : ℕ} {x : Block} → m ≤ mostNames → HoldsB t s m 1 i x z → kindIn (get_or t i 0) ≡ assignKind → AssignAt t s m i x z
 unfolding assignops
 assign-at a h k =
     let b = is-assign (omega arith) h k in
@@ -96,7 +90,7 @@ assign-at a h k =
     let u = unpacked assignKind b.op b.y 0 _ 0 _ (omega arith) b.word in
     record {
       e = b.e;
-      is = rw (u.op-is, u.name-is, found assignops b.op PowTo b.o b.pick) (b.is ∙ ap (assign b.y b.o b.e) f.is);
+      is = rw (u.op-is, u.name-is, at-elem assignops b.op PowTo b.o b.pick) (b.is ∙ ap (assign b.y b.o b.e) f.is);
       known = rw u.name-is g;
       small = omega (arith, u.op-is);
       value = ends f.here (begins b.next b.value);
@@ -108,18 +102,18 @@ pub record IteAt (t s : List ℕ) (m i : ℕ) (x : Block) (z : ℕ) : Type 0 whe
   pub no : Block
   pub mid : ℕ
   pub is : x ≡ ite e yes no end
-  pub test : HoldsE t s m (i + 1) e (get_or t (i + 1) 0 / 281474976710656)
-  pub then-held : HoldsB t s m (get_or t i 0 / 256 % 256) (get_or t (i + 1) 0 / 281474976710656) yes mid
-  pub else-held : HoldsB t s m (get_or t i 0 / 65536 % 524288 % 64) mid no z
-  pub few-then : get_or t i 0 / 256 % 256 < 64
-  pub few-else : get_or t i 0 / 65536 % 524288 % 64 < 64
-  pub width-then : get_or t i 0 / 34359738368 % 8192 ≡ orOne (width yes)
-  pub width-else : get_or t i 0 / 65536 % 524288 / 64 ≡ orOne (width no)
-  pub first : i + 1 < get_or t (i + 1) 0 / 281474976710656
-  pub second : get_or t (i + 1) 0 / 281474976710656 ≤ mid
+  pub test : HoldsE t s m (i + 1) e (lastIn (get_or t (i + 1) 0))
+  pub then-held : HoldsB t s m (nameIn (get_or t i 0)) (lastIn (get_or t (i + 1) 0)) yes mid
+  pub else-held : HoldsB t s m (elseCount (get_or t i 0)) mid no z
+  pub few-then : nameIn (get_or t i 0) < 64
+  pub few-else : elseCount (get_or t i 0) < 64
+  pub width-then : widthIn (get_or t i 0) ≡ orOne (width yes)
+  pub width-else : elseWidth (get_or t i 0) ≡ orOne (width no)
+  pub first : i + 1 < lastIn (get_or t (i + 1) 0)
+  pub second : lastIn (get_or t (i + 1) 0) ≤ mid
   pub third : mid ≤ z
 
-pub ite-at : {t s : List ℕ} {m i z : ℕ} {x : Block} → length s ≤ mostBytes → m ≤ mostNames → HoldsB t s m 1 i x z → get_or t i 0 % 16 ≡ iteKind → IteAt t s m i x z
+pub ite-at : {t s : List ℕ} {m i z : ℕ} {x : Block} → length s ≤ mostBytes → m ≤ mostNames → HoldsB t s m 1 i x z → kindIn (get_or t i 0) ≡ iteKind → IteAt t s m i x z
 ite-at a c h k =
     let b = is-ite (omega arith) h k in
     let n = b.count in
@@ -148,7 +142,7 @@ ite-at a c h k =
       else-held = f';
       few-then = rw u.name-is l1;
       few-else = rw (ap (λ (j : ℕ). j % 64) u.pos-is ∙ p1) l2;
-      width-then = u.width_is ∙ l.width-then;
+      width-then = u.width-is ∙ l.width-then;
       width-else = ap (λ (j : ℕ). j / 64) u.pos-is ∙ (p2 ∙ l.width-else);
       first = grows e';
       second = grows-b t';
@@ -156,11 +150,11 @@ ite-at a c h k =
     }
 
 -- what is none of the other kinds is an Ite
-pub else-ite : {t s : List ℕ} {m i z : ℕ} {x : Block} → HoldsB t s m 1 i x z → (get_or t i 0 % 16 ≡ gotoKind → ⊥) → (get_or t i 0 % 16 ≡ stepKind → ⊥) → (get_or t i 0 % 16 ≡ assignKind → ⊥) → get_or t i 0 % 16 ≡ iteKind
+pub else-ite : {t s : List ℕ} {m i z : ℕ} {x : Block} → HoldsB t s m 1 i x z → (kindIn (get_or t i 0) ≡ gotoKind → ⊥) → (kindIn (get_or t i 0) ≡ stepKind → ⊥) → (kindIn (get_or t i 0) ≡ assignKind → ⊥) → kindIn (get_or t i 0) ≡ iteKind
 unfolding tag
-else-ite {t} {i = i} {x = x} h a b c = by x (isEnd x) refl (not_end h (λ z. omega arith)) (kind-held (omega arith) h)
+else-ite {t} {i = i} {x = x} h a b c = by x (isEnd x) refl (not-end h (λ z. omega arith)) (kind-held (omega arith) h)
   where
-    by : (y : Block) (v : Bool) → v ≡ isEnd y → isEnd y ≡ false → get_or t i 0 % 16 ≡ tag y + 8 → get_or t i 0 % 16 ≡ iteKind
+    by : (y : Block) (v : Bool) → v ≡ isEnd y → isEnd y ≡ false → kindIn (get_or t i 0) ≡ tag y + 8 → kindIn (get_or t i 0) ≡ iteKind
     by end v o n z = absurd (let q : ◌≡◌ {A = ℕ} 0 1 = cc in omega arith)
     by (goto e xs) v o n z = absurd (a z)
     by (ite e y w xs) v o n z = z
@@ -196,6 +190,6 @@ pub assign-sum : (x : ℕ) (o : Assignop) (e : Expr) (b : Block) → b ≡ assig
 unfolding ofBlock statement node both emptyTally width
 assign-sum x o e b q = rw q (record { nodes = omega arith; strings = omega arith; characters = omega arith; widths = omega arith })
 
-pub step_sum : (f : Bool) (x : ℕ) (b : Block) → b ≡ Block.incdec f x end → One 0 0 0 b
+pub step-sum : (f : Bool) (x : ℕ) (b : Block) → b ≡ Block.incdec f x end → One 0 0 0 b
 unfolding ofBlock statement node both emptyTally width
-step_sum f x b q = rw q (record { nodes = omega arith; strings = omega arith; characters = omega arith; widths = omega arith })
+step-sum f x b q = rw q (record { nodes = omega arith; strings = omega arith; characters = omega arith; widths = omega arith })

@@ -2,14 +2,14 @@
 use mathlib.Core.Path.{◌≡◌, refl, sym, ap, ◌∙◌}
 use mathlib.Core.Bool.{Bool, false}
 use mathlib.Core.List.{List}
-use Prim.Native.Nat.{ℕ, ◌+◌, ◌*◌, ◌-◌, ◌/◌, ◌%◌, ◌<◌, ◌≤◌}
+use Prim.Native.Nat.{ℕ, ◌+◌, ◌*◌, ◌-◌, ◌/◌, ◌<◌, ◌≤◌}
 use native.Mathlib.Omega.{arith}
 use lib.ListN.{length, get_or}
 use borrow.Author.Tests.{eq-eqb, ne_eqb}
 use Rattle.rules.specs.Constants.{mostBytes, mostNames}
 use Rattle.rules.specs.Tree.{Block, end, ite, assign, ofBlock, statement, node, both, emptyTally}
 use Rattle.rules.specs.Parse.{assignops}
-use Rattle.nodes.specs.Words.{iteKind, gotoKind, stepKind, assignKind}
+use Rattle.nodes.specs.Words.{iteKind, gotoKind, stepKind, assignKind, elseWidth, kindIn, lastIn, widthIn}
 use Rattle.nodes.specs.Width.{width}
 use Rattle.nodes.specs.Holds.{HoldsB, at-end, at-goto, at-ite, at-step, at-assign}
 use Rattle.nodes.proofs.Words.{unpacked}
@@ -37,13 +37,13 @@ parts (assign x o e xs) = record { nodes = omega arith; strings = omega arith; c
 
 -- the first statement ends where its word says
 pub record Split (t s : List ℕ) (m n i : ℕ) (x : Block) (z : ℕ) : Type 0 where
-  pub head : HoldsB t s m 1 i (only x) (get_or t i 0 / 281474976710656)
-  pub tail : HoldsB t s m (n - 1) (get_or t i 0 / 281474976710656) (rest x) z
+  pub head : HoldsB t s m 1 i (only x) (lastIn (get_or t i 0))
+  pub tail : HoldsB t s m (n - 1) (lastIn (get_or t i 0)) (rest x) z
   pub some : isEnd x ≡ false
   pub made : madeBy (get_or t i 0) ≡ width (only x)
   pub linked : (l : Bool) → linkedBy (get_or t i 0) l ≡ onwardB l x
-  pub first : i < get_or t i 0 / 281474976710656
-  pub second : get_or t i 0 / 281474976710656 ≤ z
+  pub first : i < lastIn (get_or t i 0)
+  pub second : lastIn (get_or t i 0) ≤ z
 
 counts : {t s : List ℕ} {m n n' i z : ℕ} {x : Block} → n ≡ n' → HoldsB t s m n i x z → HoldsB t s m n' i x z
 counts p h = rw p at h
@@ -54,21 +54,21 @@ starts p h = rw p at h
 ends : {t s : List ℕ} {m n i z z' : ℕ} {x : Block} → z ≡ z' → HoldsB t s m n i x z → HoldsB t s m n i x z'
 ends p h = rw p at h
 
-made_other : (w k : ℕ) → w % 16 ≡ k → (k ≡ iteKind → ⊥) → madeBy w ≡ 1
+made-other : (w k : ℕ) → kindIn w ≡ k → (k ≡ iteKind → ⊥) → madeBy w ≡ 1
 unfolding madeBy
-made_other w k e h = rw (ne_eqb (w % 16) iteKind (λ q. h (sym e ∙ q)))
+made-other w k e h = rw (ne_eqb (kindIn w) iteKind (λ q. h (sym e ∙ q)))
 
-made-ite : (w v u : ℕ) → w % 16 ≡ iteKind → w / 34359738368 % 8192 ≡ v → w / 65536 % 524288 / 64 ≡ u → madeBy w ≡ 2 + v + u
+made-ite : (w v u : ℕ) → kindIn w ≡ iteKind → widthIn w ≡ v → elseWidth w ≡ u → madeBy w ≡ 2 + v + u
 unfolding madeBy
-made-ite w v u e p q = rw (eq-eqb (w % 16) iteKind e, p, q)
+made-ite w v u e p q = rw (eq-eqb (kindIn w) iteKind e, p, q)
 
-linked-goto : (w : ℕ) → w % 16 ≡ gotoKind → (l : Bool) → linkedBy w l ≡ false
+linked-goto : (w : ℕ) → kindIn w ≡ gotoKind → (l : Bool) → linkedBy w l ≡ false
 unfolding linkedBy
-linked-goto w e l = rw (eq-eqb (w % 16) gotoKind e)
+linked-goto w e l = rw (eq-eqb (kindIn w) gotoKind e)
 
-linked-other : (w k : ℕ) → w % 16 ≡ k → (k ≡ gotoKind → ⊥) → (l : Bool) → linkedBy w l ≡ l
+linked-other : (w k : ℕ) → kindIn w ≡ k → (k ≡ gotoKind → ⊥) → (l : Bool) → linkedBy w l ≡ l
 unfolding linkedBy
-linked-other w k e h l = rw (ne_eqb (w % 16) gotoKind (λ q. h (sym e ∙ q)))
+linked-other w k e h l = rw (ne_eqb (kindIn w) gotoKind (λ q. h (sym e ∙ q)))
 
 pub split : {t s : List ℕ} {m n i z : ℕ} {x : Block} → length s ≤ mostBytes → m ≤ mostNames → 0 < n → HoldsB t s m n i x z → Split t s m n i x z
 unfolding only rest width assignops
@@ -82,7 +82,7 @@ split a c h (at-goto {i = i} p w q e xs) =
       head = at-goto refl w q e (at-end refl l);
       tail = starts l (counts (omega arith) xs);
       some = refl;
-      made = made_other _ _ u.kind-is (λ r. omega arith);
+      made = made-other _ _ u.kind-is (λ r. omega arith);
       linked = linked-goto _ u.kind-is;
       first = omega (arith, u.last-is);
       second = omega (arith, u.last-is);
@@ -101,7 +101,7 @@ split a c h (at-ite n k v b p w f q e x y xs) =
       head = at-ite n k v b refl w f q e x (ends refl y) (at-end refl l);
       tail = starts l (counts (omega arith) xs);
       some = refl;
-      made = made-ite _ v b u.kind-is u.width_is (ap (λ (j : ℕ). j / 64) u.pos-is ∙ o) ∙ omega (arith, f.width-then, f.width-else);
+      made = made-ite _ v b u.kind-is u.width-is (ap (λ (j : ℕ). j / 64) u.pos-is ∙ o) ∙ omega (arith, f.width-then, f.width-else);
       linked = linked-other _ _ u.kind-is (λ z. omega arith);
       first = omega (arith, u.last-is);
       second = omega (arith, u.last-is);
@@ -114,7 +114,7 @@ split a c h (at-step b f y p q g xs) =
       head = at-step b f y refl q g (at-end refl l);
       tail = starts l (counts (omega arith) xs);
       some = refl;
-      made = made_other _ _ u.kind-is (λ r. omega arith);
+      made = made-other _ _ u.kind-is (λ r. omega arith);
       linked = linked-other _ _ u.kind-is (λ r. omega arith);
       first = omega (arith, u.last-is);
       second = omega (arith, u.last-is);
@@ -129,7 +129,7 @@ split a c h (at-assign y op o p b w k q e xs) =
       head = at-assign y op o refl b w k q e (at-end refl l);
       tail = starts l (counts (omega arith) xs);
       some = refl;
-      made = made_other _ _ u.kind-is (λ r. omega arith);
+      made = made-other _ _ u.kind-is (λ r. omega arith);
       linked = linked-other _ _ u.kind-is (λ r. omega arith);
       first = omega (arith, u.last-is);
       second = omega (arith, u.last-is);
@@ -144,19 +144,19 @@ module _ {s t : List ℕ} {i n depth : ℕ} (p : Held s t i n depth) where
   abbrev pub first : 0 < n → Held s t i 1 depth
   first h =
       let sp = cut h in
-      record { known = p.known; block = only p.block; last = get_or t i 0 / 281474976710656; held = sp.head; inside = omega (arith, p.inside, sp.second); short = p.short; few = p.few; shallow = omega (arith, p.shallow, (parts p.block).first-deep) }
+      record { known = p.known; block = only p.block; last = lastIn (get_or t i 0); held = sp.head; inside = omega (arith, p.inside, sp.second); short = p.short; few = p.few; shallow = omega (arith, p.shallow, (parts p.block).first-deep) }
 
-  abbrev pub others : 0 < n → Held s t (get_or t i 0 / 281474976710656) (n - 1) depth
+  abbrev pub others : 0 < n → Held s t (lastIn (get_or t i 0)) (n - 1) depth
   others h = record { known = p.known; block = rest p.block; last = p.last; held = (cut h).tail; inside = p.inside; short = p.short; few = p.few; shallow = omega (arith, p.shallow, (parts p.block).rest-deep) }
 
   abbrev pub moved : {k : ℕ} → k ≡ i → Held s t k n depth
   moved e = record { known = p.known; block = p.block; last = p.last; held = starts (sym e) p.held; inside = p.inside; short = p.short; few = p.few; shallow = p.shallow }
 
 -- a list of one statement is that statement
-pub one_only : {t s : List ℕ} {m i z : ℕ} {x : Block} → HoldsB t s m 1 i x z → only x ≡ x
+pub one-only : {t s : List ℕ} {m i z : ℕ} {x : Block} → HoldsB t s m 1 i x z → only x ≡ x
 unfolding only
-one_only (at-end p q) = refl
-one_only (at-goto p w q e xs) = rw (is-end xs (omega arith)).is
-one_only (at-ite n k v b p w f q e x y xs) = rw (is-end xs (omega arith)).is
-one_only (at-step b f y p q g xs) = rw (is-end xs (omega arith)).is
-one_only (at-assign y op o p b w k q e xs) = rw (is-end xs (omega arith)).is
+one-only (at-end p q) = refl
+one-only (at-goto p w q e xs) = rw (is-end xs (omega arith)).is
+one-only (at-ite n k v b p w f q e x y xs) = rw (is-end xs (omega arith)).is
+one-only (at-step b f y p q g xs) = rw (is-end xs (omega arith)).is
+one-only (at-assign y op o p b w k q e xs) = rw (is-end xs (omega arith)).is

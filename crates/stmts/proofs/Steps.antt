@@ -2,9 +2,10 @@
 use mathlib.Core.Path.{◌≡◌, sym, ap, ◌∙◌}
 use mathlib.Core.Bool.{Bool, cond}
 use mathlib.Core.List.{List}
-use Prim.Native.Nat.{ℕ, ◌+◌, ◌-◌, ◌/◌, ◌≤◌, ◌<◌}
+use Prim.Native.Nat.{ℕ, ◌+◌, ◌-◌, ◌≤◌, ◌<◌}
 use native.Mathlib.Omega.{arith}
 use lib.ListN.{get_or}
+use Rattle.nodes.specs.Words.{lastIn}
 use Rattle.rules.specs.Constants.{mostNames}
 use Rattle.rules.specs.Tree.{Block, ofBlock, emptyTally}
 use Rattle.nodes.specs.Width.{width}
@@ -23,11 +24,11 @@ ready-first p h e = record { list = first p.list h; ample = omega (arith, p.ampl
 
 module _ {s t : List ℕ} {i0 count depth n0 k : ℕ} {l0 : Bool} {c0 : Counters} {t0 : Lent} {se0 : List ℕ} {i left n : ℕ} {l : Bool} {c : Counters} {t1 : Lent} {se : List ℕ} (mid : ListMid s t i0 count depth l0 n0 k c0 t0 se0 i left l n c t1 se) where
   -- one more is lowered: linked as fl says, with number fn, left to fk; the whole is left to j, which is k
-  pub list_on : {fl l' : Bool} {fn fk n' j : ℕ} {c1 : Counters} {t2 : Lent} {se2 : List ℕ} → 0 < left → fl ≡ l → fn ≡ n → fk ≡ entryBy left (n + madeBy (get_or t i 0)) j → j ≡ k
+  pub list-on : {fl l' : Bool} {fn fk n' j : ℕ} {c1 : Counters} {t2 : Lent} {se2 : List ℕ} → 0 < left → fl ≡ l → fn ≡ n → fk ≡ entryBy left (n + madeBy (get_or t i 0)) j → j ≡ k
       → l' ≡ linkedBy (get_or t i 0) l → n' ≡ n + madeBy (get_or t i 0) → SameLengths t1 t2 se se2
       → ((m : ℕ) (x : Block) (z : ℕ) → m ≤ mostNames → HoldsB t s m 1 i x z → ListDone m x z fl fn fk c t1 t2 se se2 c1 z (fn + width x))
-      → ListMid s t i0 count depth l0 n0 k c0 t0 se0 (get_or t i 0 / 281474976710656) (left - 1) l' n' c1 t2 se2
-  list_on h a b d to e g same f =
+      → ListMid s t i0 count depth l0 n0 k c0 t0 se0 (lastIn (get_or t i 0)) (left - 1) l' n' c1 t2 se2
+  list-on h a b d to e g same f =
       let p = mid.ready in
       let sp = cut p.list h in
       let st = (f _ _ _ p.list.few sp.head).spent in
@@ -49,7 +50,7 @@ module _ {s t : List ℕ} {i0 count depth n0 k : ℕ} {l0 : Bool} {c0 : Counters
                         (rw (a, b) at du.does) r.does;
                     spent = omega (arith, du.spent, r.spent, pu);
                     node-is = r.node-is;
-                    number_is = omega (arith, r.number_is, g, su.made, pu.widths);
+                    number-is = omega (arith, r.number-is, g, su.made, pu.widths);
                   });
             };
       }
@@ -60,4 +61,4 @@ module _ {s t : List ℕ} {i0 count depth n0 k : ℕ} {l0 : Bool} {c0 : Counters
       let u = mid.going _ _ _ a q in
       let e = is-end u.held (omega arith) in
       u.goes _ _ _ _ _
-      (rw e.is (record { does = lists-none; spent = omega arith; node-is = e.here; number_is = omega arith }))
+      (rw e.is (record { does = lists-none; spent = omega arith; node-is = e.here; number-is = omega arith }))

@@ -1,7 +1,7 @@
 -- What lowering a list of statements gives: its sections in the tables, one behind the other.
-use Rattle.std.specs.Prelude.{◌≡◌, Bool, true, false, cond, eqb, List, [], map, ℕ, suc, ◌+◌, ◌-◌, ◌*◌, ◌/◌, ◌%◌, ◌≤◌, ◌<◌, max, length}
+use Rattle.std.specs.Prelude.{◌≡◌, Bool, true, false, cond, eqb, List, [], map, ℕ, suc, ◌+◌, ◌-◌, ◌*◌, ◌≤◌, ◌<◌, max, length}
 use Rattle.std.proofs.lemmas.List.Edits.{sets}
-use Rattle.rules.specs.Constants.{mostBytes, mostNames}
+use Rattle.rules.specs.Constants.{mostBytes, mostNames, instrsANode, numbersANode, mostCount}
 use Rattle.rules.specs.Word.{insWord}
 use Rattle.rules.specs.Tree.{Block, end, ite, assign, Tally, ofBlock, both}
 use Rattle.rules.specs.Machine.{SectionCode}
@@ -10,7 +10,7 @@ use Rattle.rules.specs.Script.{Stmts, nil, plain}
 use Rattle.rules.specs.Assemble.{stmtSections, orEmpty, inner, link}
 use Rattle.rules.specs.CodegenData.{CodegenData}
 use Rattle.rules.specs.Annotate.{annotateStmts}
-use Rattle.nodes.specs.Words.{iteKind, gotoKind}
+use Rattle.nodes.specs.Words.{iteKind, gotoKind, elseWidth, kindIn, widthIn}
 use Rattle.nodes.specs.Width.{width, orOne}
 use Rattle.nodes.specs.Holds.{HoldsB}
 use Rattle.codegen.specs.declared.state.Counters.{Counters}
@@ -110,7 +110,7 @@ deep (assign x o e xs) = deep xs
 pub record Ample (k : Tally) (w n j : ℕ) (c : Counters) (il nl sl pl ml zl : ℕ) : Type 0 where
   pub fits : Fits k n c il nl sl pl ml
   pub sections : j + w ≤ zl
-  pub sections-fit : j + w ≤ 65535
+  pub sections-fit : j + w ≤ mostCount
   pub small : il < 65536
 
 -- a list of `count` statements is held at node i of the table t over the file s, nested no deeper than `depth`
@@ -131,7 +131,7 @@ pub record ListReady (s t : List ℕ) (i count depth j : ℕ) (c : Counters) (il
 
 -- a part of the tree that counts k takes at most 9 instructions, 2 numbers and 3 values a node; its instructions are those of n nodes
 abbrev pub GrewBy : ℕ → Tally → Counters → Counters → Type 0
-GrewBy n k c c' = Grew c c' (9 * n) (2 * k.nodes) (3 * k.nodes) k.strings k.characters
+GrewBy n k c c' = Grew c c' (instrsANode * n) (numbersANode * k.nodes) (3 * k.nodes) k.strings k.characters
 
 -- of all its nodes
 abbrev pub GrewAll : Tally → Counters → Counters → Type 0
@@ -142,7 +142,7 @@ pub record ListDone (m : ℕ) (x : Block) (z : ℕ) (l : Bool) (n k : ℕ) (c : 
   pub does : Lists m x l n k c t t' se se' c'
   pub spent : GrewAll (ofBlock x) c c'
   pub node-is : node ≡ z
-  pub number_is : number ≡ n + width x
+  pub number-is : number ≡ n + width x
 
 pub record BranchDone (m : ℕ) (x : Block) (z : ℕ) (n j : ℕ) (c : Counters) (t t' : Lent) (se se' : List ℕ) (c' : Counters) (node : ℕ) : Type 0 where
   pub does : Branch m x n j c t t' se se' c'
@@ -158,22 +158,26 @@ pub record SameLengths (t t' : Lent) (se se' : List ℕ) : Type 0 where
   pub names : length t'.names ≡ length t.names
   pub sections : length se' ≡ length se
 
--- midway through the list x, which ends at node z: `left` statements from node i on are left, and once they are lowered the whole is
-pub record Going (s t : List ℕ) (m : ℕ) (x : Block) (z : ℕ) (l0 : Bool) (n0 k : ℕ) (c0 : Counters) (t0 : Lent) (se0 : List ℕ) (i left : ℕ) (l : Bool) (n : ℕ) (c : Counters) (t1 : Lent) (se : List ℕ) : Type 0 where
-  pub others : Block
-  pub held : HoldsB t s m left i others z
-  pub goes : (t2 : Lent) (se2 : List ℕ) (c2 : Counters) (node number : ℕ) → ListDone m others z l n k c t1 t2 se se2 c2 node number → ListDone m x z l0 n0 k c0 t0 t2 se0 se2 c2 node number
+-- midway through a list of some kind: `others` of it are left, and whatever lowering them ends with (tables, section words, counters and two numbers),
+-- the whole ends with
+pub record Going {X : Type 0} (from : X → Type 0) (done : X → Lent → List ℕ → Counters → ℕ → ℕ → Type 0) (whole : Lent → List ℕ → Counters → ℕ → ℕ → Type 0) : Type 0 where
+  pub others : X
+  pub held : from others
+  pub goes : (t : Lent) (se : List ℕ) (c : Counters) (a b : ℕ) → done others t se c a b → whole t se c a b
 
+-- of a list of statements that ends at node z, `left` from node i on are left
 pub record ListMid (s t : List ℕ) (i0 count depth : ℕ) (l0 : Bool) (n0 k : ℕ) (c0 : Counters) (t0 : Lent) (se0 : List ℕ) (i left : ℕ) (l : Bool) (n : ℕ) (c : Counters) (t1 : Lent) (se : List ℕ) : Type 0 where
   pub ready : ListReady s t i left depth n c (length t1.instrs) (length t1.numbers) (length t1.strings) (length t1.pool) (length t1.names) (length se)
-  pub going : (m : ℕ) (x : Block) (z : ℕ) → m ≤ mostNames → HoldsB t s m count i0 x z → Going s t m x z l0 n0 k c0 t0 se0 i left l n c t1 se
+  pub going : (m : ℕ) (x : Block) (z : ℕ) → m ≤ mostNames → HoldsB t s m count i0 x z
+      → Going (λ (y : Block). HoldsB t s m left i y z) (λ y t2 se2 c2 node number. ListDone m y z l n k c t1 t2 se se2 c2 node number)
+      (λ t2 se2 c2 node number. ListDone m x z l0 n0 k c0 t0 t2 se0 se2 c2 node number)
 
 -- the sections of a statement, by its node's word; and whether what stands behind it is linked
 unfoldable pub madeBy : ℕ → ℕ
-madeBy w = cond (eqb (w % 16) iteKind) (2 + w / 34359738368 % 8192 + w / 65536 % 524288 / 64) 1
+madeBy w = cond (eqb (kindIn w) iteKind) (2 + widthIn w + elseWidth w) 1
 
 unfoldable pub linkedBy : ℕ → Bool → Bool
-linkedBy w l = cond (eqb (w % 16) gotoKind) false l
+linkedBy w l = cond (eqb (kindIn w) gotoKind) false l
 
 -- where a list's first statement goes on to: the others, from number n on, or what the list is left to
 unfoldable pub entryBy : ℕ → ℕ → ℕ → ℕ

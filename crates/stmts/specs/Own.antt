@@ -1,5 +1,6 @@
 -- What lowering a statement's own instructions asks: its expression is held at node i, and there is room for it and for a instructions, n numbers
 -- and v values more.
+use Rattle.rules.specs.Constants.{instrsANode, numbersANode}
 use Rattle.std.specs.Prelude.{List, ℕ, ◌+◌, ◌*◌, ◌<◌}
 use Rattle.rules.specs.Tree.{ofExpr}
 use Rattle.codegen.specs.declared.state.Counters.{Counters}
@@ -8,7 +9,7 @@ use Rattle.exprs.specs.Exprs.{Ready}
 
 pub record Holding (s t : List ℕ) (i : ℕ) (c : Counters) (a n v il nl sl pl ml : ℕ) : Type 0 where
   pub ready : Ready s t i c il nl sl pl ml
-  pub room : Room c (9 * (ofExpr ready.tree).nodes + a) (2 * (ofExpr ready.tree).nodes + n) (3 * (ofExpr ready.tree).nodes + v) il nl
+  pub room : Room c (instrsANode * (ofExpr ready.tree).nodes + a) (numbersANode * (ofExpr ready.tree).nodes + n) (3 * (ofExpr ready.tree).nodes + v) il nl
 
 -- an assignment to the name x
 pub record Setting (s t : List ℕ) (i : ℕ) (c : Counters) (x il nl sl pl ml : ℕ) : Type 0 where

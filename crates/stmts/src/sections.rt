@@ -5,7 +5,7 @@
 // instructions below 65,536.
 ghost use Rattle.std.specs.Prelude.{◌≡◌, List, map, ℤ, ℕ, ◌+◌, ◌-◌, ◌≤◌, ◌<◌, length, get_or, set};
 ghost use Rattle.std.proofs.lemmas.List.Edits.{sets};
-ghost use Rattle.rules.specs.Constants.{mostNames};
+ghost use Rattle.rules.specs.Constants.{mostNames, mostCount};
 ghost use Rattle.rules.specs.Tables.{runOf};
 ghost use Rattle.rules.specs.Tree as Tree;
 ghost use Rattle.rules.specs.Tree.{Block};
@@ -89,7 +89,7 @@ pub fn codegen_from_step(
     inc: bool,
     x: usize,
 ) -> Counters
-    requires { (c.at + 2 ≤ length instrs.old) × (x < length names.old) × (c.values < 65535) × (place.slot.0 < length sections.old) × (c.at + 2 < 65536) }
+    requires { (c.at + 2 ≤ length instrs.old) × (x < length names.old) × (c.values < mostCount) × (place.slot.0 < length sections.old) × (c.at + 2 < 65536) }
     ensures { (n : ℕ) (ns : List ℤ) (ss ps : List ℕ) → x < n → Makes n (codegenIncdec inc x) place.start nothing (λ _. link place.linked place.next.0) place.slot.0 c (lent instrs.old ns ss ps names.old) (lent instrs.new ns ss ps names.new) sections.old sections.new result × Spent c result 2 0 1 0 0 }
 {
     let v = codegen_incdec(instrs, names, c, inc, x);

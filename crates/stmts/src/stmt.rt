@@ -6,7 +6,7 @@
 // `stmtSections` of `rules` makes of what `annotateStmts` gives, and `codegen_from_inside` those of a statement's lists (`InsideDone`). A caller
 // owes the node table and room (`ListReady`, `InsideReady`).
 ghost use Rattle.std.specs.Prelude.{◌≡◌, ℕ, ◌+◌, ◌-◌, ◌%◌, ◌≤◌, ◌<◌, length};
-ghost use Rattle.rules.specs.Constants.{mostNames};
+ghost use Rattle.rules.specs.Constants.{mostNames, mostCount};
 ghost use Rattle.rules.specs.Tree.{Block};
 ghost use Rattle.nodes.specs.Holds.{HoldsB};
 ghost use Rattle.nodes.specs.Width.{width};
@@ -43,7 +43,7 @@ fn made(w: u64) -> u16
 // The place of a list's first statement: it goes on to the others, if there are any.
 #[tactic(auto, unfolding(crate::specs::Lists::entryBy))]
 pub fn first_link(w: u64, count: usize, link: Link) -> Link
-    requires { link.number.0 + madeBy w ≤ 65535 }
+    requires { link.number.0 + madeBy w ≤ mostCount }
     ensures linked { result.linked ≡ link.linked }
     ensures number { result.number.0 ≡ link.number.0 }
     ensures next { result.next.0 ≡ entryBy count (link.number.0 + madeBy w) link.next.0 }
@@ -63,7 +63,7 @@ pub fn first_link(w: u64, count: usize, link: Link) -> Link
 // The place of the others: behind a Goto they are not linked.
 #[tactic(auto, unfolding(crate::specs::Lists::linkedBy))]
 pub fn rest_link(w: u64, link: Link) -> Link
-    requires { link.number.0 + madeBy w ≤ 65535 }
+    requires { link.number.0 + madeBy w ≤ mostCount }
     ensures linked { result.linked ≡ linkedBy w link.linked }
     ensures number { result.number.0 ≡ link.number.0 + madeBy w }
     ensures next { result.next.0 ≡ link.next.0 }

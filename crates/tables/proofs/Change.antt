@@ -18,12 +18,13 @@ use Rattle.rules.specs.Tables.{Tables, Counts, allb, spanFits, fits, decode, run
 use Rattle.rules.specs.Operations.{put, write, change}
 use Rattle.laws.specs.Words.{span-again}
 use Rattle.tables.specs.Runs.{held}
-use Rattle.tables.proofs.Sound.{no, Sound}
-use Rattle.tables.proofs.Read.{all_cons}
+use Rattle.std.proofs.lemmas.Bool.{false≢true}
+use Rattle.tables.proofs.Sound.{Sound}
+use Rattle.tables.proofs.Read.{all-cons}
 
 -- the machine that words hold
-abbrev pub machine_of : Tables → Counts → Machine
-machine_of t u = record {
+abbrev pub machineOf : Tables → Counts → Machine
+machineOf t u = record {
   lines = u.lines;
   sections = held t.sections t.instrs u.sections u.instrs;
   numbers = take u.numbers t.numbers;
@@ -34,25 +35,25 @@ machine_of t u = record {
 }
 
 module _ (t : Tables) (u : Counts) where
-  decode_no : fits t u ≡ false → decode t u ≡ refused Refusal.breaksRules
+  decode-no : fits t u ≡ false → decode t u ≡ refused Refusal.breaksRules
   unfolding decode
-  decode_no e = rw (e, decode)
+  decode-no e = rw (e, decode)
 
-  decode-ok : fits t u ≡ true → decode t u ≡ ok (machine_of t u)
+  decode-ok : fits t u ≡ true → decode t u ≡ ok (machineOf t u)
   unfolding decode held
   decode-ok e = rw (e, decode)
 
   module _ (f : Tables → Machine → Res Machine) where
     pub change-12 : fits t u ≡ false → (refused Refusal.breaksRules, t) ≡ change f t u
     unfolding change
-    change-12 e = rw (decode_no e, change)
+    change-12 e = rw (decode-no e, change)
 
     module _ (h : fits t u ≡ true) where
-      pub change-no : (n : ℕ) → f t (machine_of t u) ≡ refused n → (refused n, t) ≡ change f t u
+      pub change-no : (n : ℕ) → f t (machineOf t u) ≡ refused n → (refused n, t) ≡ change f t u
       unfolding change
       change-no n e = rw (decode-ok h, e, change)
 
-      pub change-ok : (m : Machine) → f t (machine_of t u) ≡ ok m → (ok (countsOf m), write u m t) ≡ change f t u
+      pub change-ok : (m : Machine) → f t (machineOf t u) ≡ ok m → (ok (countsOf m), write u m t) ≡ change f t u
       unfolding change
       change-ok m e = rw (decode-ok h, e, change)
 
@@ -62,10 +63,10 @@ module _ (l : ℕ) (ss : List SectionCode) (ns : List ℤ) (ts : List Span) (p :
   abbrev made : Machine
   made = record { lines = l; sections = ss; numbers = ns; strings = ts; pool = p; values = v; names = xs }
 
-  pub counts_of : (a b c d e f : ℕ) → length ss ≡ a → length (allCode ss) ≡ b → length ns ≡ c → length ts ≡ d → length p ≡ e → length xs ≡ f →
+  pub counts-of : (a b c d e f : ℕ) → length ss ≡ a → length (allCode ss) ≡ b → length ns ≡ c → length ts ≡ d → length p ≡ e → length xs ≡ f →
       countsOf made ≡ record { lines = l; sections = a; instrs = b; numbers = c; strings = d; pool = e; names = f; values = v }
   unfolding countsOf
-  counts_of a b c d e f p q r s t x = rw (p, q, r, s, t, x)
+  counts-of a b c d e f p q r s t x = rw (p, q, r, s, t, x)
 
   module _ (u : Counts) (t : Tables) where
     pub written : (a b d e f : List ℕ) (c : List ℤ) → put 0 u.sections (runWords 0 ss) t.sections ≡ a → put 0 u.instrs (map insWord (allCode ss)) t.instrs ≡ b → put (pos 0) u.numbers ns t.numbers ≡ c →
@@ -76,17 +77,17 @@ module _ (l : ℕ) (ss : List SectionCode) (ns : List ℤ) (ts : List Span) (p :
 
 -- ---- a table written back over itself
 
-pub put_back : {A : Type 0} (z : A) (n : ℕ) (t : List A) → n ≤ length t → put z n (take n t) t ≡ t
+pub put-back : {A : Type 0} (z : A) (n : ℕ) (t : List A) → n ≤ length t → put z n (take n t) t ≡ t
 unfolding put
-put_back z n t h =
+put-back z n t h =
     let l = length-take-le n t h in
     let m : max n n ≡ n = max-eq_left (omega arith) in
     rw (l, m, sub_self) (take-append-drop n t)
 
 -- words at the start of a table, zeros up to n
-pub put_is : (n m : ℕ) (ws t t' : List ℕ) → take m t' ≡ ws → length ws ≡ m → m ≤ n → drop n t' ≡ drop n t → take m t' ++ (replicate (n - m) 0 ++ drop n t') ≡ put 0 n ws t
+pub put-is : (n m : ℕ) (ws t t' : List ℕ) → take m t' ≡ ws → length ws ≡ m → m ≤ n → drop n t' ≡ drop n t → take m t' ++ (replicate (n - m) 0 ++ drop n t') ≡ put 0 n ws t
 unfolding put
-put_is n m ws t t' a b c d = let z : max n m ≡ n = max-eq_left c in rw (a, d, b, z)
+put-is n m ws t t' a b c d = let z : max n m ≡ n = max-eq_left c in rw (a, d, b, z)
 
 -- m words that are no fewer than n
 pub put-over : {A : Type 0} (z : A) (n m : ℕ) (ws t t' : List A) → take m t' ≡ ws → length ws ≡ m → n ≤ m → drop m t' ≡ drop m t → t' ≡ put z n ws t
@@ -96,9 +97,9 @@ put-over z n m ws t t' a b c d =
     let f : max n m ≡ m = max-eq_right c in
     rw (b, e, f) (sym (take-append-drop m t') ∙ rw (a, d))
 
-pub put_same : (n : ℕ) (ws t t' : List ℕ) → length ws ≤ n → drop n t ≡ drop n t' → put 0 n ws t ≡ put 0 n ws t'
+pub put-same : (n : ℕ) (ws t t' : List ℕ) → length ws ≤ n → drop n t ≡ drop n t' → put 0 n ws t ≡ put 0 n ws t'
 unfolding put
-put_same n ws t t' h e = let z : max n (length ws) ≡ n = max-eq_left h in rw (z, e)
+put-same n ws t t' h e = let z : max n (length ws) ≡ n = max-eq_left h in rw (z, e)
 
 -- strings that keep the rules are written as they were
 taken-small : (n : ℕ) (t : List ℕ) → ((i : ℕ) → get_or t i 0 < 2 ^ 32) → (i : ℕ) → get_or (take n t) i 0 < 2 ^ 32
@@ -113,15 +114,15 @@ spare-zero u w e = go (eqb (spanSpare w) 0) refl e
   where
     go : (b : Bool) → eqb (spanSpare w) 0 ≡ b → spanFits u w ≡ true → spanSpare w ≡ 0
     go true d h = eqb-true _ _ d
-    go false d h = absurd (no (rw d at h))
+    go false d h = absurd (false≢true (rw d at h))
 
 spans-back : (u : Counts) (ws : List ℕ) → ((i : ℕ) → get_or ws i 0 < 2 ^ 32) → allb (spanFits u) ws ≡ true → map spanWord (map wordSpan ws) ≡ ws
 spans-back u [] b e = refl
 spans-back u (w ∷ ws) b e = by (spanFits u w) refl (λ d. spans-back u ws (λ i. b (suc i)) d)
   where
     by : (c : Bool) → spanFits u w ≡ c → (allb (spanFits u) ws ≡ true → map spanWord (map wordSpan ws) ≡ ws) → spanWord (wordSpan w) ∷ map spanWord (map wordSpan ws) ≡ w ∷ ws
-    by true d ih = rw (span-again w (b 0) (spare-zero u w d), ih (sym (all_cons (spanFits u) w ws true d) ∙ e))
-    by false d ih = absurd (no (sym (all_cons (spanFits u) w ws false d) ∙ e))
+    by true d ih = rw (span-again w (b 0) (spare-zero u w d), ih (sym (all-cons (spanFits u) w ws true d) ∙ e))
+    by false d ih = absurd (false≢true (sym (all-cons (spanFits u) w ws false d) ∙ e))
 
 pub strings-back : (t : Tables) (u : Counts) → Sound t u → ((i : ℕ) → get_or t.strings i 0 < 2 ^ 32) → map spanWord (map wordSpan (take u.strings t.strings)) ≡ take u.strings t.strings
 strings-back t u s h = spans-back u (take u.strings t.strings) (taken-small u.strings t.strings h) s.spans

@@ -16,16 +16,16 @@ module _ {A : Type 0} (s : List A) (i n : ℕ) (v : A) (h : i < n) (l : n ≤ le
   pub set-left : (j : ℕ) → i < j → slice j n (set s i v) ≡ slice j n s
   set-left j k = rw (take-set-lt n s i v h, drop-set-lt j (take n s) i v k)
 
-  pub set_rest : drop n (set s i v) ≡ drop n s
-  set_rest = drop-set-lt n s i v h
+  pub set-rest : drop n (set s i v) ≡ drop n s
+  set-rest = drop-set-lt n s i v h
 
 -- ---- each word by a function
 
 module _ (g : ℕ → ℕ) (s : List ℕ) (i n : ℕ) where
-  pub map_more : i < n → n ≤ length s → (v : ℕ) → v ≡ g (get_or s i 0) → take (i + 1) (set s i v) ++ (map g (slice (i + 1) n (set s i v)) ++ drop n (set s i v)) ≡ take i s ++ (map g (slice i n s) ++ drop n s)
-  map_more h l v e =
+  pub map-more : i < n → n ≤ length s → (v : ℕ) → v ≡ g (get_or s i 0) → take (i + 1) (set s i v) ++ (map g (slice (i + 1) n (set s i v)) ++ drop n (set s i v)) ≡ take i s ++ (map g (slice i n s) ++ drop n s)
+  map-more h l v e =
       let z : i < i + 1 = omega arith in
-      rw (set-taken s i n v h l, set-left s i n v h l (i + 1) z, set_rest s i n v h l, slice-cons i n s 0 h l, add-one, e) (append_snoc (take i s) (g (get_or s i 0)) (map g (slice (suc i) n s) ++ drop n s))
+      rw (set-taken s i n v h l, set-left s i n v h l (i + 1) z, set-rest s i n v h l, slice-cons i n s 0 h l, add-one, e) (append_snoc (take i s) (g (get_or s i 0)) (map g (slice (suc i) n s) ++ drop n s))
 
 -- ---- zeros
 
@@ -34,7 +34,7 @@ module _ {A : Type 0} (z : A) (s : List A) (i n : ℕ) where
   pub zero_more : i < n → n ≤ length s → take (i + 1) (set s i z) ++ (replicate (n - (i + 1)) z ++ drop n (set s i z)) ≡ take i s ++ (replicate (n - i) z ++ drop n s)
   zero_more h l =
       let e : n - i ≡ suc (n - (i + 1)) = omega arith in
-      rw (set-taken s i n z h l, set_rest s i n z h l, e) (append_snoc (take i s) z (replicate (n - (i + 1)) z ++ drop n s))
+      rw (set-taken s i n z h l, set-rest s i n z h l, e) (append_snoc (take i s) z (replicate (n - (i + 1)) z ++ drop n s))
 
 -- ---- lists that agree from a place on
 

@@ -12,44 +12,45 @@ use Rattle.rules.specs.Machine.{SectionOrLine, SectionCode}
 use Rattle.rules.specs.Tables.{Tables, Counts, allb, runsFit, readSections, sectionRun, runOf}
 use Rattle.rules.specs.Operations.{fixedHere}
 use Rattle.tables.specs.Rules.{sectionFits}
-use Rattle.tables.specs.Runs.{count_of, total, sectionOf, fixed_word}
-use Rattle.tables.proofs.Sound.{no, Sound}
+use Rattle.tables.specs.Runs.{countOf, total, sectionOf, fixedWord}
+use Rattle.std.proofs.lemmas.Bool.{false≢true}
+use Rattle.tables.proofs.Sound.{Sound}
 
 pub read-nil : (is : List ℕ) → readSections [] is ≡ []
 unfolding readSections
 read-nil is = refl
 
-pub read-cons : (w : ℕ) (ws is : List ℕ) → readSections (w ∷ ws) is ≡ sectionOf w is ∷ readSections ws (drop (count_of w) is)
-unfolding readSections count_of
+pub read-cons : (w : ℕ) (ws is : List ℕ) → readSections (w ∷ ws) is ≡ sectionOf w is ∷ readSections ws (drop (countOf w) is)
+unfolding readSections countOf
 read-cons w ws is = refl
 
-pub read_length : (ws is : List ℕ) → length (readSections ws is) ≡ length ws
+pub read-length : (ws is : List ℕ) → length (readSections ws is) ≡ length ws
 unfolding readSections
-read_length [] is = refl
-read_length (w ∷ ws) is = ap suc (read_length ws (drop (wordRun w).count is))
+read-length [] is = refl
+read-length (w ∷ ws) is = ap suc (read-length ws (drop (wordRun w).count is))
 
 -- a section's word by its parts
 pub word-is : (k : ℕ) (s : SectionCode) (l : Bool) (o : SectionOrLine) (c : ℕ) → l ≡ s.lineStart → o ≡ s.success → c ≡ length s.instrs → runWord (runOf l o k c) ≡ runWord (sectionRun s k)
 word-is k s l o c p q r = rw (p, q, r)
 
-pub count-is : (w : ℕ) → (wordRun w).count ≡ count_of w
-unfolding count_of
+pub count-is : (w : ℕ) → (wordRun w).count ≡ countOf w
+unfolding countOf
 count-is w = refl
 
-pub fixed-is : (w : ℕ) (is : List ℕ) → fixedHere (sectionOf w is) ≡ fixed_word w
-unfolding fixedHere fixed_word
+pub fixed-is : (w : ℕ) (is : List ℕ) → fixedHere (sectionOf w is) ≡ fixedWord w
+unfolding fixedHere fixedWord
 fixed-is w is = refl
 
 -- ---- all
 
-pub all_nil : {A : Type 0} (p : A → Bool) → allb p [] ≡ true
+pub all-nil : {A : Type 0} (p : A → Bool) → allb p [] ≡ true
 unfolding allb
-all_nil p = refl
+all-nil p = refl
 
-pub all_cons : {A : Type 0} (p : A → Bool) (x : A) (xs : List A) (b : Bool) → p x ≡ b → allb p (x ∷ xs) ≡ cond b (allb p xs) false
+pub all-cons : {A : Type 0} (p : A → Bool) (x : A) (xs : List A) (b : Bool) → p x ≡ b → allb p (x ∷ xs) ≡ cond b (allb p xs) false
 unfolding allb
-all_cons p x xs true e = rw (e, allb)
-all_cons p x xs false e = rw (e, allb)
+all-cons p x xs true e = rw (e, allb)
+all-cons p x xs false e = rw (e, allb)
 
 -- ---- the runs' total
 
@@ -57,12 +58,12 @@ pub total-nil : total [] ≡ 0
 unfolding total
 total-nil = refl
 
-pub total-cons : (w : ℕ) (ws : List ℕ) → total (w ∷ ws) ≡ count_of w + total ws
+pub total-cons : (w : ℕ) (ws : List ℕ) → total (w ∷ ws) ≡ countOf w + total ws
 unfolding total
 total-cons w ws = refl
 
-pub runs-cons : (u : Counts) (i k w : ℕ) (ws : List ℕ) (b : Bool) → sectionFits u i k w ≡ b → runsFit u i k (w ∷ ws) ≡ cond b (runsFit u (suc i) (k + count_of w) ws) false
-unfolding runsFit sectionFits count_of
+pub runs-cons : (u : Counts) (i k w : ℕ) (ws : List ℕ) (b : Bool) → sectionFits u i k w ≡ b → runsFit u i k (w ∷ ws) ≡ cond b (runsFit u (suc i) (k + countOf w) ws) false
+unfolding runsFit sectionFits countOf
 runs-cons u i k w ws true e = rw (e, runsFit)
 runs-cons u i k w ws false e = rw (e, runsFit)
 
@@ -73,11 +74,11 @@ runs-nil u i k = refl
 runs-total : (u : Counts) (ws : List ℕ) (i k : ℕ) → runsFit u i k ws ≡ true → k + total ws ≡ u.instrs
 unfolding total
 runs-total u [] i k e = let z : k ≡ u.instrs = eqb-true _ _ (sym (runs-nil u i k) ∙ e) in omega arith
-runs-total u (w ∷ ws) i k e = by (sectionFits u i k w) refl (runs-total u ws (suc i) (k + count_of w))
+runs-total u (w ∷ ws) i k e = by (sectionFits u i k w) refl (runs-total u ws (suc i) (k + countOf w))
   where
-    by : (b : Bool) → sectionFits u i k w ≡ b → (runsFit u (suc i) (k + count_of w) ws ≡ true → k + count_of w + total ws ≡ u.instrs) → k + (count_of w + total ws) ≡ u.instrs
+    by : (b : Bool) → sectionFits u i k w ≡ b → (runsFit u (suc i) (k + countOf w) ws ≡ true → k + countOf w + total ws ≡ u.instrs) → k + (countOf w + total ws) ≡ u.instrs
     by true d ih = let z = ih (sym (runs-cons u i k w ws true d) ∙ e) in omega arith
-    by false d ih = absurd (no (sym (runs-cons u i k w ws false d) ∙ e))
+    by false d ih = absurd (false≢true (sym (runs-cons u i k w ws false d) ∙ e))
 
 pub whole-total : (t : Tables) (u : Counts) → Sound t u → total (take u.sections t.sections) ≡ u.instrs
 whole-total t u s = let z = runs-total u (take u.sections t.sections) 0 0 s.runs in omega arith

@@ -3,16 +3,13 @@ use mathlib.Core.Path.{◌≡◌, refl}
 use mathlib.Core.Bool.{Bool, true, false, ◌&&◌}
 use mathlib.Core.List.{List, [], ◌∷◌}
 use Prim.Native.Nat.{ℕ, ◌<◌, ◌≤◌}
-use native.Mathlib.Omega.{arith}
 use lib.Dec.{ltb, leb}
 use lib.ListN.{length, take}
 use borrow.Author.Tests.{leb-true, ltb-true}
+use Rattle.std.proofs.lemmas.Bool.{false≢true}
 use Rattle.rules.specs.Constants.{mostLines, mostCount}
 use Rattle.rules.specs.Tables.{Tables, Counts, allb, insFits, runsFit, spanFits, nameFits, countFits, countsFit, wordsFit, fits}
 use Rattle.laws.specs.Lists.{both}
-
-pub no : ◌≡◌ {A = Bool} false true → ⊥
-no e = let z : ◌≡◌ {A = ℕ} 0 1 = cc in omega arith
 
 -- ---- tests in a row that all hold
 
@@ -108,7 +105,7 @@ module _ (t : Tables) (u : Counts) where
   by-counts : (b : Bool) → countsFit t u ≡ b → fits t u ≡ true → (b ≡ true) × (wordsFit t u ≡ true)
   unfolding fits
   by-counts true e h = (refl, rw (e, fits) at h)
-  by-counts false e h = absurd (no (rw (e, fits) at h))
+  by-counts false e h = absurd (false≢true (rw (e, fits) at h))
 
   pub sound : fits t u ≡ true → Sound t u
   unfolding wordsFit

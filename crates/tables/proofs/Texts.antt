@@ -16,21 +16,21 @@ at_some [] n h = absurd (omega arith)
 at_some (x ∷ l) zero h = refl
 at_some (x ∷ l) (suc n) h = at_some l n (omega arith)
 
-abbrev span_of : ℕ → ℕ → Span
-span_of s n = record { start = s; size = n }
+abbrev spanOf : ℕ → ℕ → Span
+spanOf s n = record { start = s; size = n }
 
 module _ (strings pool : List ℕ) (r : ℕ) where
-  span_none : none ≡ stringWord strings r → span_of (length pool) 0 ≡ textSpan strings pool r
+  span-none : none ≡ stringWord strings r → spanOf (length pool) 0 ≡ textSpan strings pool r
   unfolding textSpan
-  span_none e = sym (rw (← e, textSpan))
+  span-none e = sym (rw (← e, textSpan))
 
-  span-some : (w : ℕ) → some w ≡ stringWord strings r → (t : Bool) → t ≡ (eqb (spanSpare w) 0 && leb ((wordSpan w).start + (wordSpan w).size) (length pool)) → cond t (wordSpan w) (span_of (length pool) 0) ≡ textSpan strings pool r
+  span-some : (w : ℕ) → some w ≡ stringWord strings r → (t : Bool) → t ≡ (eqb (spanSpare w) 0 && leb ((wordSpan w).start + (wordSpan w).size) (length pool)) → cond t (wordSpan w) (spanOf (length pool) 0) ≡ textSpan strings pool r
   unfolding textSpan
   span-some w e true f = sym (rw (← e, ← f, textSpan))
   span-some w e false f = sym (rw (← e, ← f, textSpan))
 
   -- what holds of the pool's end, and of every word's place in the pool, holds of a text's place
-  module _ (P : Span → Type 0) (none_is : P (span_of (length pool) 0)) (some_is : (w : ℕ) → (wordSpan w).start + (wordSpan w).size ≤ length pool → P (wordSpan w)) where
+  module _ (P : Span → Type 0) (none_is : P (spanOf (length pool) 0)) (some_is : (w : ℕ) → (wordSpan w).start + (wordSpan w).size ≤ length pool → P (wordSpan w)) where
     word-by : (w : ℕ) → some w ≡ stringWord strings r → P (textSpan strings pool r)
     word-by w e = go (leb ((wordSpan w).start + (wordSpan w).size) (length pool)) refl (eqb (spanSpare w) 0) refl
       where
@@ -47,9 +47,9 @@ module _ (strings pool : List ℕ) (r : ℕ) where
     span-by = go (stringWord strings r) refl
       where
         go : (x : Option ℕ) → stringWord strings r ≡ x → P (textSpan strings pool r)
-        go none e = subst P (span_none (sym e)) none_is
+        go none e = subst P (span-none (sym e)) none_is
         go (some w) e = word-by w (sym e)
 
   -- it lies in the pool, and is short
-  pub place_inside : (s n : ℕ) → span_of s n ≡ textSpan strings pool r → s + n ≤ length pool
+  pub place_inside : (s n : ℕ) → spanOf s n ≡ textSpan strings pool r → s + n ≤ length pool
   place_inside s n e = let P : Span → Type 0 = λ z. z.start + z.size ≤ length pool in subst P (sym e) (span-by P (omega arith) (λ w h. h))

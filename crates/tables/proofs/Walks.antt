@@ -10,15 +10,15 @@ use lib.ListN.{length, get_or}
 use lib.Seq.{slice, slice-cons, slice_empty}
 use Rattle.rules.specs.Tables.{Counts, allb, runsFit}
 use Rattle.tables.specs.Rules.{sectionFits}
-use Rattle.tables.specs.Runs.{count_of}
-use Rattle.tables.proofs.Read.{all_nil, all_cons, runs-nil, runs-cons}
+use Rattle.tables.specs.Runs.{countOf}
+use Rattle.tables.proofs.Read.{all-nil, all-cons, runs-nil, runs-cons}
 
 module _ (p : ℕ → Bool) (t : List ℕ) (i n : ℕ) where
   pub all_done : n ≤ i → i ≤ n → allb p (slice i n t) ≡ true
-  all_done a b = let e : i ≡ n = omega arith in rw (e, slice_empty) (all_nil p)
+  all_done a b = let e : i ≡ n = omega arith in rw (e, slice_empty) (all-nil p)
 
   pub all_at : i < n → n ≤ length t → allb p (slice i n t) ≡ cond (p (get_or t i 0)) (allb p (slice (i + 1) n t)) false
-  all_at h k = rw (slice-cons i n t 0 h k, add-one) (all_cons p (get_or t i 0) (slice (suc i) n t) _ refl)
+  all_at h k = rw (slice-cons i n t 0 h k, add-one) (all-cons p (get_or t i 0) (slice (suc i) n t) _ refl)
 
 -- sections, with the instruction k at which the next run begins
 module _ (u : Counts) (t : List ℕ) (i k n : ℕ) where
@@ -26,5 +26,5 @@ module _ (u : Counts) (t : List ℕ) (i k n : ℕ) where
   runs_done a b = let e : i ≡ n = omega arith in rw (e, slice_empty) (runs-nil u n k)
 
   pub runs_at : i < n → n ≤ length t →
-      runsFit u i k (slice i n t) ≡ cond (sectionFits u i k (get_or t i 0)) (runsFit u (i + 1) (k + count_of (get_or t i 0)) (slice (i + 1) n t)) false
+      runsFit u i k (slice i n t) ≡ cond (sectionFits u i k (get_or t i 0)) (runsFit u (i + 1) (k + countOf (get_or t i 0)) (slice (i + 1) n t)) false
   runs_at h l = rw (slice-cons i n t 0 h l, add-one) (runs-cons u i k (get_or t i 0) (slice (suc i) n t) _ refl)

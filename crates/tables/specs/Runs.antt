@@ -6,16 +6,16 @@ use Rattle.rules.specs.Machine.{SectionCode, isFixed}
 use Rattle.rules.specs.Tables.{successOf, readSections}
 
 -- is a section's word fixed?
-unfoldable pub fixed_word : ℕ → Bool
-fixed_word w = isFixed (successOf (wordRun w))
+unfoldable pub fixedWord : ℕ → Bool
+fixedWord w = isFixed (successOf (wordRun w))
 
 -- the instructions of a section's word, and of all of them
-unfoldable pub count_of : ℕ → ℕ
-count_of w = (wordRun w).count
+unfoldable pub countOf : ℕ → ℕ
+countOf w = (wordRun w).count
 
 unfoldable pub total : List ℕ → ℕ
 total [] = 0
-total (w ∷ ws) = count_of w + total ws
+total (w ∷ ws) = countOf w + total ws
 
 -- the section of a word, whose instructions are the first of the words `is`
 abbrev pub sectionOf : ℕ → List ℕ → SectionCode

@@ -1,5 +1,6 @@
 // The check of a machine's words: one walk over the tables, shown equal to `fits` of `rules`. Assumes nothing; the loops ask that the
 // counts keep the rules.
+ghost use Rattle.rules.specs.Constants.{mostCount};
 ghost use Rattle.std.specs.Prelude.{◌≡◌, ◌≤◌, length, take};
 ghost use Rattle.rules.specs.Tables.{allb, insFits, runsFit, spanFits, nameFits, fits};
 ghost use Rattle.tables.specs.Lent.{countsTold, tables};
@@ -26,9 +27,9 @@ fn instructions_fit(c: Counts, t: &[u64]) -> bool
 }
 
 // Runs stand end to end from 0 and cover the counted instructions.
-#[tactic(auto, using(crate::proofs::Walks::runs_done, crate::proofs::Walks::runs_at), unfolding(crate::specs::Runs::count_of))]
+#[tactic(auto, using(crate::proofs::Walks::runs_done, crate::proofs::Walks::runs_at), unfolding(crate::specs::Runs::countOf))]
 fn sections_fit(c: Counts, t: &[u64]) -> bool
-    requires { (c.sections ≤ length t.now) × (c.sections ≤ 65535) }
+    requires { (c.sections ≤ length t.now) × (c.sections ≤ mostCount) }
     ensures { result ≡ runsFit (countsTold c) 0 0 (take c.sections t.now) }
 {
     let mut i: usize = 0;

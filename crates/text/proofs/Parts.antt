@@ -20,13 +20,13 @@ use Rattle.text.proofs.Writes.{Are}
 
 -- ---- a number
 
-digits_last : (k x : ℕ) (t : List ℕ) → x < 10 → Listing.digits (suc k) x t ≡ (48 + x % 10) ∷ t
+digits-last : (k x : ℕ) (t : List ℕ) → x < 10 → Listing.digits (suc k) x t ≡ (48 + x % 10) ∷ t
 unfolding Listing.digits
-digits_last k x t h = rw (lt-ltb x 10 h, Listing.digits)
+digits-last k x t h = rw (lt-ltb x 10 h, Listing.digits)
 
-digits_more : (k x : ℕ) (t : List ℕ) → 10 ≤ x → Listing.digits (suc k) x t ≡ Listing.digits k (x / 10) ((48 + x % 10) ∷ t)
+digits-more : (k x : ℕ) (t : List ℕ) → 10 ≤ x → Listing.digits (suc k) x t ≡ Listing.digits k (x / 10) ((48 + x % 10) ∷ t)
 unfolding Listing.digits
-digits_more k x t h = rw (le-ltb x 10 h, Listing.digits)
+digits-more k x t h = rw (le-ltb x 10 h, Listing.digits)
 
 digits-none : (x : ℕ) (t : List ℕ) → Listing.digits 0 x t ≡ t
 unfolding Listing.digits
@@ -38,13 +38,13 @@ module _ (d : List ℕ) (x : ℕ) where
   digit_last zero h l e = absurd (omega arith)
   digit_last (suc k) h l e =
       let s : suc k - 1 ≡ k = omega arith in
-      sym (rw (s, drop-set d k (48 + x % 10) (omega arith), add-one k, digits_last k x (drop (suc k) d) e))
+      sym (rw (s, drop-set d k (48 + x % 10) (omega arith), add-one k, digits-last k x (drop (suc k) d) e))
 
   pub digit_more : (k : ℕ) → 0 < k → k ≤ length d → 10 ≤ x → Listing.digits k x (drop k d) ≡ Listing.digits (k - 1) (x / 10) (drop (k - 1) (set d (k - 1) (48 + x % 10)))
   digit_more zero h l e = absurd (omega arith)
   digit_more (suc k) h l e =
       let s : suc k - 1 ≡ k = omega arith in
-      sym (rw (s, drop-set d k (48 + x % 10) (omega arith), add-one k, digits_more k x (drop (suc k) d) e))
+      sym (rw (s, drop-set d k (48 + x % 10) (omega arith), add-one k, digits-more k x (drop (suc k) d) e))
 
   pub no_digit : (k : ℕ) → k ≤ 0 → Listing.digits k x (drop k d) ≡ drop k d
   no_digit zero h = digits-none x d

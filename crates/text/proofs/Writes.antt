@@ -17,12 +17,12 @@ pub seq : {o p q : List ℕ} {a b c : ℕ} {xs ys : List ℕ} → Wrote o p a b 
 seq {o} {p} {q} {a} {b} {c} {xs} {ys} v w =
     record { text = w.text ∙ rw (v.text, v.stop) (sets-sets xs o a ys); stop = simp length-append (omega (arith, v.stop, w.stop)) }
 
-pub as_is : {o p : List ℕ} {a e : ℕ} {xs ys : List ℕ} → Wrote o p a e xs → xs ≡ ys → Wrote o p a e ys
-as_is {o} {p} {a} {e} w h = subst (Wrote o p a e) h w
+pub as-is : {o p : List ℕ} {a e : ℕ} {xs ys : List ℕ} → Wrote o p a e xs → xs ≡ ys → Wrote o p a e ys
+as-is {o} {p} {a} {e} w h = subst (Wrote o p a e) h w
 
 -- written from the first byte on
-pub from_start : {o p : List ℕ} {r : ℕ} {bs : List ℕ} → Wrote o p 0 r bs → Room o 0 bs → Prints o p r bs
-from_start {o} {p} {r} {bs} w h =
+pub from-start : {o p : List ℕ} {r : ℕ} {bs : List ℕ} → Wrote o p 0 r bs → Room o 0 bs → Prints o p r bs
+from-start {o} {p} {r} {bs} w h =
     let e : r ≡ length bs = omega (arith, w.stop) in
     record { text = w.text ∙ sets-eq bs o 0 h ∙ rw (e, zero-add); size = e }
 
@@ -32,9 +32,9 @@ abbrev pub flat : List (List ℕ) → List ℕ
 flat [] = []
 flat (x ∷ xs) = x ++ flat xs
 
-flat_append : (xs ys : List (List ℕ)) → flat (xs ++ ys) ≡ flat xs ++ flat ys
-flat_append [] ys = refl
-flat_append (x ∷ xs) ys = rw (flat_append xs ys, append_assoc)
+flat-append : (xs ys : List (List ℕ)) → flat (xs ++ ys) ≡ flat xs ++ flat ys
+flat-append [] ys = refl
+flat-append (x ∷ xs) ys = rw (flat-append xs ys, append_assoc)
 
 -- o with `all` from a on is o' with what is left from e on
 pub record Left (o : List ℕ) (a : ℕ) (all o' : List ℕ) (e : ℕ) (left : List (List ℕ)) : Type 0 where
@@ -58,7 +58,7 @@ module _ {o o' : List ℕ} {a e : ℕ} {all : List ℕ} where
   module _ {x : List ℕ} {xs : List (List ℕ)} where
     -- a part in parts of its own
     pub part : {ys : List (List ℕ)} → Are ys x → Left o a all o' e (x ∷ xs) → Left o a all o' e (ys ++ xs)
-    part {ys} h r = record { text = rw (flat_append ys xs, h.flat-is) r.text; stop = rw (flat_append ys xs, h.flat-is) r.stop }
+    part {ys} h r = record { text = rw (flat-append ys xs, h.flat-is) r.text; stop = rw (flat-append ys xs, h.flat-is) r.stop }
 
     pub write : {p : List ℕ} {f : ℕ} → Left o a all o' e (x ∷ xs) → Wrote o' p e f x → Left o a all p f xs
     write {p} {f} r w =
@@ -72,7 +72,7 @@ module _ {o o' : List ℕ} {a e : ℕ} {all : List ℕ} where
 
 -- ---- bytes copied one by one
 
-pub one_more : {o p : List ℕ} {a : ℕ} (s : List ℕ) (i : ℕ) → i < length s → Wrote o p a (a + i) (take i s) → Wrote o (set p (a + i) (get_or s i 0)) a (a + (i + 1)) (take (i + 1) s)
-one_more {o} {p} {a} s i h w =
+pub one-more : {o p : List ℕ} {a : ℕ} (s : List ℕ) (i : ℕ) → i < length s → Wrote o p a (a + i) (take i s) → Wrote o (set p (a + i) (get_or s i 0)) a (a + (i + 1)) (take (i + 1) s)
+one-more {o} {p} {a} s i h w =
     let e : a + i + 1 ≡ a + (i + 1) = omega arith in
     rw (add-one i, take-suc s i 0 h) (rw (e, add-one i) at (seq w (one p (a + i) (get_or s i 0))))

@@ -7,22 +7,22 @@ use native.Mathlib.Numerals.{sub-one}
 use borrow.Author.Tests.{eq-eqb, ne_eqb, lt-ltb, le-ltb, le-leb, lt-leb}
 use lib.Dec.{eqb, ltb}
 use lib.ListN.{length, set}
-use Rattle.rules.specs.Constants.{mostBytes, mostDepth, form, head_bits, nameBits, byteBits}
+use Rattle.rules.specs.Constants.{mostBytes, mostDepth, form, headBits, nameBits, byteBits}
 use Rattle.rules.specs.Refusal.{otherForm, zeroLines, leftOver, tooLong}
 use Rattle.rules.specs.Bits.{Res, refused, ok}
 use Rattle.rules.specs.Tree.{Block, Tree, ofLines, both, emptyTally}
 use Rattle.rules.specs.Parse.{Reader, At, bits, many, left, fill, lineBlock, body, file, parse, demand, ◌>>=◌}
-use Rattle.rules.specs.Operations.{size, size_of}
+use Rattle.rules.specs.Operations.{size, sizeOf}
 use Rattle.bits.specs.Reads.{Gives, Fine, Took, at}
 use Rattle.bits.specs.declared.Cursor.{Cursor}
-use Rattle.names.specs.Names.{firstName, names_at, end_at, NamedAll}
+use Rattle.names.specs.Names.{firstName, namesAt, endAt, NamedAll}
 use Rattle.nodes.specs.Builds.{listR, Built, HeldB, countB}
 use Rattle.tree.specs.declared.SizeAnswer.{SizeAnswer}
 use Rattle.tree.specs.declared.SizeAnswer.TheVariants.{Sized, Refused as No}
-use Rattle.tree.specs.Files.{headValues, Ended, lineWord, HoldsL, no_line, a-line, Lined, LinesMid, Filed, Treed, TreeRead, start, origin, widths, Headed, Placed, sizeRes}
-use Rattle.bits.proofs.Bits.{field_in}
-use Rattle.bits.proofs.Gives.{then, stop, done, passes, fails, bits_in, unique, never, after}
-use Rattle.nodes.proofs.Table.{agree_refl, agree-part, agree_trans, moved-b, grows-b, set_below, set_here}
+use Rattle.tree.specs.Files.{headValues, Ended, lineWord, HoldsL, no-line, a-line, Lined, LinesMid, Filed, Treed, TreeRead, start, origin, widths, Headed, Placed, sizeRes}
+use Rattle.bits.proofs.Bits.{field-in}
+use Rattle.bits.proofs.Gives.{then, stop, done, passes, fails, bits-in, unique, never, after}
+use Rattle.nodes.proofs.Table.{agree-refl, agree-part, agree-trans, moved-b, grows-b, set-below, set-here}
 
 -- ---- the end
 
@@ -46,7 +46,7 @@ module _ {s : List ℕ} {c d : Cursor} {w v : ℕ} (l : byteBits * length s - c.
 
 -- the bits that are left are there
 pub fill-there : {s : List ℕ} {c : Cursor} {w x : ℕ} → byteBits * length s - c.pos ≡ w → Fine s c → Gives (bits w) s (at c) (refused x) → ⊥
-fill-there {s = s} {c = c} {w = w} l f g = never (unique (bits_in s w (at c) _ _ (sym (field_in s w c.pos (omega arith)))) g)
+fill-there {s = s} {c = c} {w = w} l f g = never (unique (bits-in s w (at c) _ _ (sym (field-in s w c.pos (omega arith)))) g)
 
 -- ---- lines
 
@@ -55,10 +55,10 @@ unfolding many
 many-end zero r h = done
 many-end (suc k) r h = absurd (omega arith)
 
-many_more : {A : Type 0} (k : ℕ) {r : Reader A} {s : List ℕ} {c c1 c2 : At} {x : A} {xs : List A} → 0 < k → Gives r s c (ok (x, c1)) → Gives (many (k - 1) r) s c1 (ok (xs, c2)) → Gives (many k r) s c (ok (x ∷ xs, c2))
+many-more : {A : Type 0} (k : ℕ) {r : Reader A} {s : List ℕ} {c c1 c2 : At} {x : A} {xs : List A} → 0 < k → Gives r s c (ok (x, c1)) → Gives (many (k - 1) r) s c1 (ok (xs, c2)) → Gives (many k r) s c (ok (x ∷ xs, c2))
 unfolding many
-many_more zero h g a = absurd (omega arith)
-many_more (suc k) h g a = then _ g (then _ (rw sub-one at a) done)
+many-more zero h g a = absurd (omega arith)
+many-more (suc k) h g a = then _ g (then _ (rw sub-one at a) done)
 
 many-later : {A : Type 0} (k : ℕ) {r : Reader A} {s : List ℕ} {c c1 : At} {x : A} {n : ℕ} → 0 < k → Gives r s c (ok (x, c1)) → Gives (many (k - 1) r) s c1 (refused n) → Gives (many k r) s c (refused n)
 unfolding many
@@ -75,8 +75,8 @@ line-from : (n : ℕ) {s : List ℕ} {c : At} {res : Res (Block × At)} → Give
 unfolding listR lineBlock
 line-from n g = g
 
-pub lines_start : (n total : ℕ) (s t ls : List ℕ) (c : Cursor) → Fine s c → LinesMid n total s t ls c c 0
-lines_start n total s t ls c f =
+pub lines-start : (n total : ℕ) (s t ls : List ℕ) (c : Cursor) → Fine s c → LinesMid n total s t ls c c 0
+lines-start n total s t ls c f =
     let e : total - 0 ≡ total = omega arith in
     record {
       pre = λ xs. xs;
@@ -90,23 +90,23 @@ lines_start n total s t ls c f =
     }
 
 module _ {n total : ℕ} {s t ls : List ℕ} {c d : Cursor} {k : ℕ} (m : LinesMid n total s t ls c d k) where
-  pub lines_more : {t' : List ℕ} {v : ℕ} {e : Cursor} (ls' : List ℕ) → k < total → k < length ls → ls' ≡ set ls k (lineWord v d.nodes) → Built (listR n mostDepth) (HeldB s n) countB s t t' d d v e
+  pub lines-more : {t' : List ℕ} {v : ℕ} {e : Cursor} (ls' : List ℕ) → k < total → k < length ls → ls' ≡ set ls k (lineWord v d.nodes) → Built (listR n mostDepth) (HeldB s n) countB s t t' d d v e
       → LinesMid n total s t' ls' c e (k + 1)
   unfolding ofLines both lineWord widths
-  lines_more {t' = t'} {v = v} {e = e} ls' h l w x =
+  lines-more {t' = t'} {v = v} {e = e} ls' h l w x =
       let g = grows-b x.holds.is in
       let a = m.after in
       let q = x.counts in
       let i : total - (k + 1) ≡ total - k - 1 = omega arith in
       record {
         pre = λ xs. m.pre (x.val ∷ xs);
-        goes = λ xs f y. m.goes _ f (many_more (total - k) (omega arith) (line-from n x.reads) (rw i at y));
+        goes = λ xs f y. m.goes _ f (many-more (total - k) (omega arith) (line-from n x.reads) (rw i at y));
         stops = λ z y. m.stops z (many-later (total - k) (omega arith) (line-from n x.reads) (rw i at y));
         holds = λ u lu xs j b f y.
             m.holds u lu (x.val ∷ xs) j
-            (agree_trans (agree-part x.kept (omega arith) (omega arith)) (agree-part b (omega arith) (omega arith)))
-            (agree_trans (set_below ls ls' k (lineWord v d.nodes) w) (agree-part f (omega arith) (omega arith)))
-            (a-line v x.holds.few (f.same k (omega arith) (omega arith) ∙ set_here ls ls' k (lineWord v d.nodes) w l) (moved-b (agree-part b (omega arith) (omega arith)) x.holds.is) refl y);
+            (agree-trans (agree-part x.kept (omega arith) (omega arith)) (agree-part b (omega arith) (omega arith)))
+            (agree-trans (set-below ls ls' k (lineWord v d.nodes) w) (agree-part f (omega arith) (omega arith)))
+            (a-line v x.holds.few (f.same k (omega arith) (omega arith) ∙ set-here ls ls' k (lineWord v d.nodes) w l) (moved-b (agree-part b (omega arith) (omega arith)) x.holds.is) refl y);
         counts = λ xs f y. m.counts (x.val ∷ xs) f (omega arith);
         many-lines = λ xs. m.many-lines (x.val ∷ xs) ∙ omega arith;
         after = omega arith;
@@ -123,7 +123,7 @@ module _ {n total : ℕ} {s t ls : List ℕ} {c d : Cursor} {k : ℕ} (m : Lines
         val = m.pre [];
         reads = m.goes [] (at d) (many-end (total - k) _ (omega arith));
         valueless = refl;
-        holds = m.holds t ls [] d.nodes agree_refl agree_refl (no_line (omega arith) refl);
+        holds = m.holds t ls [] d.nodes agree-refl agree-refl (no-line (omega arith) refl);
         counts = m.counts [] d (omega arith);
         many-lines = m.many-lines [] ∙ omega arith;
         fine = m.fine;
@@ -131,8 +131,8 @@ module _ {n total : ℕ} {s t ls : List ℕ} {c d : Cursor} {k : ℕ} (m : Lines
 
 -- ---- the file
 
-pub names-length : (s : List ℕ) (n p : ℕ) → length (names_at s n p) ≡ n
-unfolding names_at
+pub names-length : (s : List ℕ) (n p : ℕ) → length (namesAt s n p) ≡ n
+unfolding namesAt
 names-length s zero p = refl
 names-length s (suc n) p = ap suc (names-length s n _)
 
@@ -148,37 +148,37 @@ pub parse-ok : (s : List ℕ) (x : Tree) (c : At) → length s ≤ mostBytes →
 unfolding parse
 parse-ok s x c h g = rw (le-leb (length s) mostBytes h, parse, g.is)
 
-pub head-1 : {s : List ℕ} {x : ℕ} → Gives (bits head_bits) s start (refused x) → Gives file s start (refused x)
+pub head-1 : {s : List ℕ} {x : ℕ} → Gives (bits headBits) s start (refused x) → Gives file s start (refused x)
 unfolding file
 head-1 g = stop _ g
 
-pub head-2 : {s : List ℕ} {f : ℕ} {c1 : At} → Gives (bits head_bits) s start (ok (f, c1)) → (f ≡ form → ⊥) → Gives file s start (refused otherForm)
+pub head-2 : {s : List ℕ} {f : ℕ} {c1 : At} → Gives (bits headBits) s start (ok (f, c1)) → (f ≡ form → ⊥) → Gives file s start (refused otherForm)
 unfolding file
 head-2 g h = then _ g (stop _ (fails (ne_eqb _ form h)))
 
-pub head-3 : {s : List ℕ} {f : ℕ} {c1 : At} {x : ℕ} → Gives (bits head_bits) s start (ok (f, c1)) → f ≡ form → Gives (bits head_bits) s c1 (refused x) → Gives file s start (refused x)
+pub head-3 : {s : List ℕ} {f : ℕ} {c1 : At} {x : ℕ} → Gives (bits headBits) s start (ok (f, c1)) → f ≡ form → Gives (bits headBits) s c1 (refused x) → Gives file s start (refused x)
 unfolding file
 head-3 g h a = then _ g (then _ (passes otherForm (eq-eqb _ form h)) (stop _ a))
 
-pub head-4 : {s : List ℕ} {f l : ℕ} {c1 c2 : At} → Gives (bits head_bits) s start (ok (f, c1)) → f ≡ form → Gives (bits head_bits) s c1 (ok (l, c2)) → l ≡ 0 → Gives file s start (refused zeroLines)
+pub head-4 : {s : List ℕ} {f l : ℕ} {c1 c2 : At} → Gives (bits headBits) s start (ok (f, c1)) → f ≡ form → Gives (bits headBits) s c1 (ok (l, c2)) → l ≡ 0 → Gives file s start (refused zeroLines)
 unfolding file
 head-4 {l = l} g h a b = then _ g (then _ (passes otherForm (eq-eqb _ form h)) (then _ a (stop _ (fails (le-ltb 0 l (omega arith))))))
 
-pub head-5 : {s : List ℕ} {f l : ℕ} {c1 c2 : At} {x : ℕ} → Gives (bits head_bits) s start (ok (f, c1)) → f ≡ form → Gives (bits head_bits) s c1 (ok (l, c2)) → (l ≡ 0 → ⊥) → Gives (bits nameBits) s c2 (refused x) → Gives file s start (refused x)
+pub head-5 : {s : List ℕ} {f l : ℕ} {c1 c2 : At} {x : ℕ} → Gives (bits headBits) s start (ok (f, c1)) → f ≡ form → Gives (bits headBits) s c1 (ok (l, c2)) → (l ≡ 0 → ⊥) → Gives (bits nameBits) s c2 (refused x) → Gives file s start (refused x)
 unfolding file
 head-5 {l = l} g h a b e = then _ g (then _ (passes otherForm (eq-eqb _ form h)) (then _ a (then _ (passes zeroLines (lt-ltb 0 l (omega arith))) (stop _ e))))
 
-behind-head : (l n : ℕ) {s : List ℕ} {f : ℕ} {c1 c2 c3 : At} {res : Res (Tree × At)} → Gives (bits head_bits) s start (ok (f, c1)) → f ≡ form → Gives (bits head_bits) s c1 (ok (l, c2)) → (l ≡ 0 → ⊥) → Gives (bits nameBits) s c2 (ok (n, c3)) → Gives (body l n) s c3 res → Gives file s start res
+behind-head : (l n : ℕ) {s : List ℕ} {f : ℕ} {c1 c2 c3 : At} {res : Res (Tree × At)} → Gives (bits headBits) s start (ok (f, c1)) → f ≡ form → Gives (bits headBits) s c1 (ok (l, c2)) → (l ≡ 0 → ⊥) → Gives (bits nameBits) s c2 (ok (n, c3)) → Gives (body l n) s c3 res → Gives file s start res
 unfolding file
 behind-head l n g h a b e r = then _ g (then _ (passes otherForm (eq-eqb _ form h)) (then _ a (then _ (passes zeroLines (lt-ltb 0 l (omega arith))) (then _ e r))))
 
 at-counts : {l l' n n' : ℕ} {s : List ℕ} {c : At} {res : Res (Tree × At)} → l ≡ l' → n ≡ n' → Gives (body l n) s c res → Gives (body l' n') s c res
 at-counts e f g = rw (← e, ← f) g
 
-pub headed : {s : List ℕ} {f l n : ℕ} {c1 c2 c3 : Cursor} → Took (bits head_bits) s origin 0 0 (2 ^ head_bits) f c1 → f ≡ form → Took (bits head_bits) s c1 0 0 (2 ^ head_bits) l c2 → (l ≡ 0 → ⊥) → Took (bits nameBits) s c2 0 0 (2 ^ nameBits) n c3 → Headed s (l + headValues * n) c3
+pub headed : {s : List ℕ} {f l n : ℕ} {c1 c2 c3 : Cursor} → Took (bits headBits) s origin 0 0 (2 ^ headBits) f c1 → f ≡ form → Took (bits headBits) s c1 0 0 (2 ^ headBits) l c2 → (l ≡ 0 → ⊥) → Took (bits nameBits) s c2 0 0 (2 ^ nameBits) n c3 → Headed s (l + headValues * n) c3
 headed {l = l} {n = n} a h b k d =
-    let x = after head_bits a.reads in
-    let y = after head_bits b.reads in
+    let x = after headBits a.reads in
+    let y = after headBits b.reads in
     let z = after nameBits d.reads in
     let u = a.moved in
     let v = b.moved in
@@ -197,10 +197,10 @@ headed {l = l} {n = n} a h b k d =
       fine = d.fine;
     }
 
-held_at : {t ls s : List ℕ} {m k i i' k' j j' : ℕ} {xs : List Block} → i ≡ i' → j ≡ j' → HoldsL t ls s m k i xs k' j → HoldsL t ls s m k i' xs k' j'
-held_at p q h = rw (← p, ← q) h
+held-at : {t ls s : List ℕ} {m k i i' k' j j' : ℕ} {xs : List Block} → i ≡ i' → j ≡ j' → HoldsL t ls s m k i xs k' j → HoldsL t ls s m k i' xs k' j'
+held-at p q h = rw (← p, ← q) h
 
-placed : (s : List ℕ) (n p : ℕ) → p ≡ firstName → end_at s n p ≤ byteBits * length s → Placed s (names_at s n p)
+placed : (s : List ℕ) (n p : ℕ) → p ≡ firstName → endAt s n p ≤ byteBits * length s → Placed s (namesAt s n p)
 placed s n p e h =
     let u = names-length s n p in
     record { are = rw (u, e) refl; inside = rw (u, ← e) h }
@@ -218,9 +218,9 @@ filed {s = s} {v = v} {c3 = c3} {c4 = c4} {c5 = c5} {c6 = c6} h x y z =
     let i : c4.nodes ≡ 0 = omega arith in
     let j : c5.nodes ≡ c6.nodes = omega arith in
     record {
-      val = record { names = names_at s (v / headValues) c3.pos; lines = y.val };
+      val = record { names = namesAt s (v / headValues) c3.pos; lines = y.val };
       reads = h.goes _ (then _ x.reads (then _ y.reads (then _ z.reads done)));
-      holds = rw (u, l) (held_at i j y.holds);
+      holds = rw (u, l) (held-at i j y.holds);
       names = placed s (v / headValues) c3.pos h.place (rw (← x.place) f.inside);
       nodes = omega arith;
       within = omega arith;
@@ -233,15 +233,15 @@ filed {s = s} {v = v} {c3 = c3} {c4 = c4} {c5 = c5} {c6 = c6} h x y z =
     }
 
 pub treed : {s t ls : List ℕ} {v : ℕ} {c : Cursor} → Filed s t ls v c → length s ≤ mostBytes → Treed s t ls (record { lines = v % headValues; names = v / headValues; statements = c.statements; nodes = c.nodes; strings = c.strings; characters = c.chars })
-unfolding size_of
+unfolding sizeOf
 treed {s = s} {v = v} {c = c} f h =
     let k = f.both in
     let m = f.few in
     let a : v % headValues ≡ length f.val.lines = omega arith in
     let b : v / headValues ≡ length f.val.names = omega arith in
-    record { val = f.val; parses = parse-ok s f.val (at c) h f.reads; holds = f.holds; names = f.names; size_is = rw (a, b, f.statements, f.nodes, f.strings, f.chars); within = f.within }
+    record { val = f.val; parses = parse-ok s f.val (at c) h f.reads; holds = f.holds; names = f.names; size-is = rw (a, b, f.statements, f.nodes, f.strings, f.chars); within = f.within }
 
 pub size-from : {s t ls : List ℕ} {r : SizeAnswer} → TreeRead s t ls r → sizeRes r ≡ size s
 unfolding size
-size-from {s = s} {r = Sized z} h = rw (h.here.parses, size) (ap ok h.here.size_is)
+size-from {s = s} {r = Sized z} h = rw (h.here.parses, size) (ap ok h.here.size-is)
 size-from {s = s} {r = No k} h = rw (h.here, size)

@@ -1,16 +1,16 @@
 -- What the steps that read lines and the whole file give: they refuse as the readers of rules do, or the tables hold what those read.
 use Rattle.std.specs.Prelude.{◌≡◌, List, [], ◌∷◌, ℕ, ◌+◌, ◌-◌, ◌*◌, ◌/◌, ◌%◌, ◌^◌, ◌≤◌, ◌<◌, length, get_or}
-use Rattle.rules.specs.Constants.{byteBits, head_bits, listBits, mostLines, mostNames}
+use Rattle.rules.specs.Constants.{byteBits, headBits, listBits, mostLines, mostNames}
 use Rattle.rules.specs.Bits.{Res, refused, ok}
 use Rattle.rules.specs.Tree.{Name, Block, Tree, ofLines}
 use Rattle.rules.specs.Parse.{At, many, body, fill, file, parse, lineBlock}
-use Rattle.rules.specs.Operations.{size_of}
+use Rattle.rules.specs.Operations.{sizeOf}
 use Rattle.rules.specs.Operations as O
 use Rattle.bits.specs.Reads.{Gives, Fine, Moved, at}
 use Rattle.bits.specs.declared.Cursor.{Cursor}
 use Rattle.bits.specs.declared.Step.{Step}
 use Rattle.bits.specs.declared.Step.TheVariants.{Next, Refused}
-use Rattle.names.specs.Names.{firstName, names_at, end_at}
+use Rattle.names.specs.Names.{firstName, namesAt, endAt}
 use Rattle.nodes.specs.Builds.{Agree, Counted, mostNodesOf}
 use Rattle.nodes.specs.Width.{width}
 use Rattle.nodes.specs.Holds.{HoldsB}
@@ -24,7 +24,7 @@ lineWord n i = n + 2 ^ listBits * i
 
 -- the tables t and ls hold the lines k to k', from node i to node j
 pub data HoldsL (t ls s : List ℕ) (m : ℕ) : ℕ → ℕ → List Block → ℕ → ℕ → Type 0 where
-  no_line : {k i k' j : ℕ} → k ≡ k' → i ≡ j → HoldsL t ls s m k i [] k' j
+  no-line : {k i k' j : ℕ} → k ≡ k' → i ≡ j → HoldsL t ls s m k i [] k' j
   a-line : {k h i l k' j : ℕ} {b : Block} {bs : List Block} (n : ℕ) → n < 2 ^ listBits → get_or ls k 0 ≡ lineWord n i → HoldsB t s m n i b l → h ≡ k + 1 → HoldsL t ls s m h l bs k' j → HoldsL t ls s m k i (b ∷ bs) k' j
 
 -- the sections of all lines, one by one
@@ -87,7 +87,7 @@ HoldsTree s t ls x j = HoldsL t ls s (length x.names) 0 0 x.lines (length x.line
 
 -- lines are counted below this; names stand above them in one number
 abbrev pub headValues : ℕ
-headValues = 2 ^ head_bits
+headValues = 2 ^ headBits
 
 -- the head is read: v is its lines and names, and what stands behind it is the body of the file
 pub record Headed (s : List ℕ) (v : ℕ) (c : Cursor) : Type 0 where
@@ -110,8 +110,8 @@ pub record HeadRead (s : List ℕ) (st : Step) : Type 0 where
 
 -- the names of the tree stand in the file, from behind the head
 pub record Placed (s : List ℕ) (x : List Name) : Type 0 where
-  pub are : x ≡ names_at s (length x) firstName
-  pub inside : end_at s (length x) firstName ≤ byteBits * length s
+  pub are : x ≡ namesAt s (length x) firstName
+  pub inside : endAt s (length x) firstName ≤ byteBits * length s
 
 -- the whole file is read; v is its lines and names
 pub record Filed (s t ls : List ℕ) (v : ℕ) (c : Cursor) : Type 0 where
@@ -149,7 +149,7 @@ pub record Treed (s t ls : List ℕ) (z : Sizes) : Type 0 where
   pub parses : parse s ≡ ok val
   pub holds : HoldsTree s t ls val z.nodes
   pub names : Placed s val.names
-  pub size_is : sized z ≡ size_of val
+  pub size-is : sized z ≡ sizeOf val
   pub within : z.nodes ≤ mostNodesOf (length s)
 
 abbrev pub TreeAt : List ℕ → List ℕ → List ℕ → SizeAnswer → Type 0

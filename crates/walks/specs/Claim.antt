@@ -1,4 +1,4 @@
--- What the proof of demand 3 claims on the way: of any script that is read, and the sections that are made of it.
+-- What the proof claims on the way: of any script that is read, and the sections that are made of it.
 use Rattle.std.specs.Prelude.{◌≡◌, ◌↔◌, List, map, ℕ, ◌<◌, length, get_or}
 use Rattle.std.proofs.Math.Option.{none}
 use Rattle.bounds.specs.Good.{GoodTree, GoodWhole, SectGood}
@@ -8,7 +8,7 @@ use Rattle.rules.specs.Walk.{Ask, atJump, atGoto, ask, lost, End, more, over, wa
 use Rattle.rules.specs.Combine.{pair}
 use Rattle.rules.specs.Script.{Script}
 use Rattle.rules.specs.ReadScript.{readScript}
-use Rattle.rules.specs.Demand.{Walk, Meets, Stops, SameWalk, All, prune}
+use Rattle.rules.specs.Preservation.{Walk, Meets, Stops, SameWalk, All, prune}
 
 -- ---- walks
 
@@ -29,9 +29,9 @@ GoodEnd G (over (ask (atJump w))) = Unit {0}
 GoodEnd G (over (ask (atGoto r))) = G r
 GoodEnd G (over lost) = Unit {0}
 
--- ---- demand 3 of a script t, read, and the sections m of L lines, walked
+-- ---- a script t, read, and the sections m of L lines, walked
 
-pub record Demand3 (L : ℕ) (t : Script) (m : List SectionCode) (os : List ℕ) : Type 1 where
+pub record PreservesScript (L : ℕ) (t : Script) (m : List SectionCode) (os : List ℕ) : Type 1 where
   pub same : SameWalk (walkSections m L os) (readScript t os)
   pub found : Safe (walkSections m L os)
   pub sections : (k : ℕ) → All (λ u. u < length m) (enters m L k (0, os))

@@ -30,11 +30,11 @@ module _ (L : ℕ) (pos : 0 < L) (m : List SectionCode) (fixed-lines : (t : ℕ)
   unfolding SafeAt
   safe-next s s' l e safe k q = safe (suc k) (ap (λ (x : Leg State). (onto (λ z. run (stepSection m L) k z) x.0 x.1).1) e ∙ q)
 
-  clean_run : (k : ℕ) (s : State) → SafeAt s → run (stepSection (cleanSections m) L) k (rank m s.0, s.1) ≡ run (stepSection m L) k s
-  clean_run zero s safe = refl
-  clean_run (suc k) s safe =
+  clean-run : (k : ℕ) (s : State) → SafeAt s → run (stepSection (cleanSections m) L) k (rank m s.0, s.1) ≡ run (stepSection m L) k s
+  clean-run zero s safe = refl
+  clean-run (suc k) s safe =
       ap (λ (x : Leg State). onto (λ z. run (stepSection (cleanSections m) L) k z) x.0 x.1) (step-clean s.0 s.1 (safe-fixed s.0 s.1 safe))
-      ∙ go (stepSection m L s).1 refl (λ z q. clean_run k z q)
+      ∙ go (stepSection m L s).1 refl (λ z q. clean-run k z q)
     where
       l : List Instruction
       l = (stepSection m L s).0
@@ -47,4 +47,4 @@ module _ (L : ℕ) (pos : 0 < L) (m : List SectionCode) (fixed-lines : (t : ℕ)
   -- Cleaning keeps the walk of a machine whose walk is safe and whose first L sections are fixed line starts.
   pub clean-same : (os : List ℕ) → Safe (walkSections m L os) → (k : ℕ) → walkSections (cleanSections m) L os k ≡ walkSections m L os k
   unfolding SafeAt
-  clean-same os safe k = ap (λ (n : ℕ). run (stepSection (cleanSections m) L) k (n, os)) (sym (rank-low L pos m fixed-lines 0 pos)) ∙ clean_run k (0, os) safe
+  clean-same os safe k = ap (λ (n : ℕ). run (stepSection (cleanSections m) L) k (n, os)) (sym (rank-low L pos m fixed-lines 0 pos)) ∙ clean-run k (0, os) safe

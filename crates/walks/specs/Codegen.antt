@@ -15,14 +15,14 @@ Ends = ℕ × Option ℕ
 abbrev pub push : List SectionCode → Bool → List Instruction → SectionOrLine → List SectionCode
 push m b c x = m ++ (record { lineStart = b; instrs = c; success = x } ∷ [])
 
-abbrev pub with_next : SectionCode → SectionOrLine → SectionCode
-with_next s x = record { lineStart = s.lineStart; instrs = s.instrs; success = x }
+abbrev pub withNext : SectionCode → SectionOrLine → SectionCode
+withNext s x = record { lineStart = s.lineStart; instrs = s.instrs; success = x }
 
 abbrev pub withIns : SectionCode → Instruction → SectionCode
 withIns s i = record { lineStart = s.lineStart; instrs = s.instrs ++ (i ∷ []); success = s.success }
 
 abbrev pub setNext : List SectionCode → ℕ → SectionOrLine → List SectionCode
-setNext m n x = set m n (with_next (get_or m n absent) x)
+setNext m n x = set m n (withNext (get_or m n absent) x)
 
 abbrev pub addIns : List SectionCode → ℕ → Instruction → List SectionCode
 addIns m n i = set m n (withIns (get_or m n absent) i)

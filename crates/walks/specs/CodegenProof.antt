@@ -12,14 +12,14 @@ use Rattle.std.proofs.lemmas.List.{length-replicate, set_at, get_or_at}
 use Rattle.rules.specs.Instr.{Instruction}
 use Rattle.rules.specs.Machine.{SectionOrLine, unfixed, section, line, SectionCode, absent, isFixed}
 use Rattle.rules.specs.Script.{Stmts, nil, plain, goto, ite, Script}
-use Rattle.rules.specs.Assemble.{condJump, nextLine, orOne, sectionsMade, ownCode, entry, cond_code, inner, orEmpty, stmtSections, asStart, head_of, tailOf, heads, tails, sectionsOf}
+use Rattle.rules.specs.Assemble.{condJump, nextLine, orOne, sectionsMade, ownCode, entry, condCode, inner, orEmpty, stmtSections, asStart, headOf, tailOf, heads, tails, sectionsOf}
 use Rattle.bounds.specs.Lengths.{length-low, length-orEmpty, length-tailOf}
-use Rattle.walks.specs.Codegen.{Ends, push, with_next, withIns, setNext, addIns, setEnd, reduce, linkUp, thenDone, elseDone, thenPart, elsePart, join, gen, swap, lineDone, fixLine, genLines, codegen}
+use Rattle.walks.specs.Codegen.{Ends, push, withNext, withIns, setNext, addIns, setEnd, reduce, linkUp, thenDone, elseDone, thenPart, elsePart, join, gen, swap, lineDone, fixLine, genLines, codegen}
 
 -- ---- the table, at a place
 
-set_next : (p q : List SectionCode) (z : SectionCode) (n : ℕ) (x : SectionOrLine) → length p ≡ n → setNext (p ++ (z ∷ q)) n x ≡ p ++ (with_next z x ∷ q)
-set_next p q z n x h = ap (λ (y : SectionCode). set (p ++ (z ∷ q)) n (with_next y x)) (get_or_at p z q absent n h) ∙ set_at p z q (with_next z x) n h
+set-next : (p q : List SectionCode) (z : SectionCode) (n : ℕ) (x : SectionOrLine) → length p ≡ n → setNext (p ++ (z ∷ q)) n x ≡ p ++ (withNext z x ∷ q)
+set-next p q z n x h = ap (λ (y : SectionCode). set (p ++ (z ∷ q)) n (withNext y x)) (get_or_at p z q absent n h) ∙ set_at p z q (withNext z x) n h
 
 add-ins : (p q : List SectionCode) (z : SectionCode) (n : ℕ) (i : Instruction) → length p ≡ n → addIns (p ++ (z ∷ q)) n i ≡ p ++ (withIns z i ∷ q)
 add-ins p q z n i h = ap (λ (y : SectionCode). set (p ++ (z ∷ q)) n (withIns y i)) (get_or_at p z q absent n h) ∙ set_at p z q (withIns z i) n h
@@ -40,8 +40,8 @@ record LinkedUp (m : List SectionCode) (a : ℕ) (red : List SectionCode × Opti
   close : (M T : List SectionCode) (j : ℕ) → length M ≡ length m → setEnd (M ++ (Y ++ T)) en j ≡ M ++ (F j ++ T)
   len : length Y ≡ sz
 
-linked_up : (m : List SectionCode) (a : ℕ) (r : List SectionCode × Ends) (F : ℕ → List SectionCode) (z : ℕ) → Linked m a r F z → LinkedUp m a (r.0, some r.1) F z
-linked_up m a r F z l = record { Y = l.Y; en = l.en; is = ap (λ (x : List SectionCode × Ends). (x.0, some x.1)) l.is; close = l.close; len = l.len }
+linked-up : (m : List SectionCode) (a : ℕ) (r : List SectionCode × Ends) (F : ℕ → List SectionCode) (z : ℕ) → Linked m a r F z → LinkedUp m a (r.0, some r.1) F z
+linked-up m a r F z l = record { Y = l.Y; en = l.en; is = ap (λ (x : List SectionCode × Ends). (x.0, some x.1)) l.is; close = l.close; len = l.len }
 
 -- A list whose first section is a line's first or not.
 abbrev flag : Bool → List SectionCode → List SectionCode
@@ -68,20 +68,20 @@ reduce-none m a [] = refl
 reduce-none m a (x ∷ xs) = reduce-none m a xs
 
 -- Behind a goto it does not matter what follows the list.
-low_any : (e n k k' : ℕ) (s : Stmts) → stmtSections false e n k s ≡ stmtSections false e n k' s
-low_any e n k k' nil = refl
-low_any e n k k' (plain o s) = ap (λ (l : List SectionCode). inner (ownCode e o) unfixed ∷ l) (low_any e (suc n) k k' s)
-low_any e n k k' (goto o r s) = ap (λ (l : List SectionCode). inner (ownCode e o) (line r) ∷ l) (low_any e (suc n) k k' s)
-low_any e n k k' (ite o c t f s) =
+low-any : (e n k k' : ℕ) (s : Stmts) → stmtSections false e n k s ≡ stmtSections false e n k' s
+low-any e n k k' nil = refl
+low-any e n k k' (plain o s) = ap (λ (l : List SectionCode). inner (ownCode e o) unfixed ∷ l) (low-any e (suc n) k k' s)
+low-any e n k k' (goto o r s) = ap (λ (l : List SectionCode). inner (ownCode e o) (line r) ∷ l) (low-any e (suc n) k k' s)
+low-any e n k k' (ite o c t f s) =
     let nf = suc n + orOne t (sectionsMade t) in
     let nj = nf + orOne f (sectionsMade f) in
     ap
     (
     λ (l : List SectionCode).
-    inner (ownCode e o ++ cond_code t c (suc n)) (section nf)
+    inner (ownCode e o ++ condCode t c (suc n)) (section nf)
     ∷ (orEmpty t nj (stmtSections true e (suc n) nj t) ++ (orEmpty f nj (stmtSections true e nf nj f) ++ (inner [] unfixed ∷ l)))
     )
-    (low_any e (suc nj) k k' s)
+    (low-any e (suc nj) k k' s)
 
 module _ (e : ℕ) where
   abbrev Chained : Stmts → Type 0
@@ -92,16 +92,16 @@ module _ (e : ℕ) where
       m
       a
       (reduce (m ++ (A ++ (z ∷ stmtSections false e (suc n) 0 s))) a (some n) (ends (suc n) s))
-      (λ j. A ++ (with_next z (section (entry s (suc n) j)) ∷ stmtSections true e (suc n) j s))
+      (λ j. A ++ (withNext z (section (entry s (suc n) j)) ∷ stmtSections true e (suc n) j s))
       (length A + suc (sectionsMade s))
 
   regroup : (M A T : List SectionCode) (z : SectionCode) → M ++ ((A ++ (z ∷ [])) ++ T) ≡ (M ++ A) ++ (z ∷ T)
   regroup M A T z = simp append_assoc
 
-  link-step : (m A B : List SectionCode) (z : SectionCode) (n : ℕ) (x : SectionOrLine) → length m + length A ≡ n → setNext (m ++ (A ++ (z ∷ B))) n x ≡ m ++ (A ++ (with_next z x ∷ B))
+  link-step : (m A B : List SectionCode) (z : SectionCode) (n : ℕ) (x : SectionOrLine) → length m + length A ≡ n → setNext (m ++ (A ++ (z ∷ B))) n x ≡ m ++ (A ++ (withNext z x ∷ B))
   link-step m A B z n x h =
       ap (λ (l : List SectionCode). setNext l n x) (sym (append_assoc m A (z ∷ B)))
-      ∙ (set_next (m ++ A) B z n x (omega (arith, length-append m A)) ∙ append_assoc m A (with_next z x ∷ B))
+      ∙ (set-next (m ++ A) B z n x (omega (arith, length-append m A)) ∙ append_assoc m A (withNext z x ∷ B))
 
   linked-cast : (m : List SectionCode) (a : ℕ) (r r' : List SectionCode × Ends) (F F' : ℕ → List SectionCode) (z z' : ℕ) → r' ≡ r → ((j : ℕ) → F j ≡ F' j) → z ≡ z' → Linked m a r F z → Linked m a r' F' z'
   linked-cast m a r r' F F' z z' p q w l =
@@ -121,10 +121,10 @@ module _ (e : ℕ) where
       m
       a
       (reduce (setNext (m ++ (A ++ (z ∷ (C ++ (W ∷ stmtSections false e (suc nj) 0 s))))) n (section (suc n))) a (some nj) (ends (suc nj) s))
-      (λ j. A ++ (with_next z (section (suc n)) ∷ (C ++ (with_next W (section (entry s (suc nj) j)) ∷ stmtSections true e (suc nj) j s))))
+      (λ j. A ++ (withNext z (section (suc n)) ∷ (C ++ (withNext W (section (entry s (suc nj) j)) ∷ stmtSections true e (suc nj) j s))))
       (length A + suc (length C + suc (sectionsMade s)))
   chain-on s ih n a m A z C W nj h k =
-      let z' = with_next z (section (suc n)) in
+      let z' = withNext z (section (suc n)) in
       let R = W ∷ stmtSections false e (suc nj) 0 s in
       let lA : length (A ++ (z' ∷ C)) ≡ length A + suc (length C) = length-append A (z' ∷ C) in
       linked-cast
@@ -132,12 +132,12 @@ module _ (e : ℕ) where
       a
       (reduce (m ++ ((A ++ (z' ∷ C)) ++ R)) a (some nj) (ends (suc nj) s))
       (reduce (setNext (m ++ (A ++ (z ∷ (C ++ R)))) n (section (suc n))) a (some nj) (ends (suc nj) s))
-      (λ j. (A ++ (z' ∷ C)) ++ (with_next W (section (entry s (suc nj) j)) ∷ stmtSections true e (suc nj) j s))
-      (λ j. A ++ (z' ∷ (C ++ (with_next W (section (entry s (suc nj) j)) ∷ stmtSections true e (suc nj) j s))))
+      (λ j. (A ++ (z' ∷ C)) ++ (withNext W (section (entry s (suc nj) j)) ∷ stmtSections true e (suc nj) j s))
+      (λ j. A ++ (z' ∷ (C ++ (withNext W (section (entry s (suc nj) j)) ∷ stmtSections true e (suc nj) j s))))
       (length (A ++ (z' ∷ C)) + suc (sectionsMade s))
       (length A + suc (length C + suc (sectionsMade s)))
       (ap (λ (l : List SectionCode). reduce l a (some nj) (ends (suc nj) s)) (link-step m A (C ++ R) z n (section (suc n)) h ∙ ap (λ (l : List SectionCode). m ++ l) (sym (append_assoc A (z' ∷ C) R))))
-      (λ j. append_assoc A (z' ∷ C) (with_next W (section (entry s (suc nj) j)) ∷ stmtSections true e (suc nj) j s))
+      (λ j. append_assoc A (z' ∷ C) (withNext W (section (entry s (suc nj) j)) ∷ stmtSections true e (suc nj) j s))
       (omega arith)
       (ih nj a m (A ++ (z' ∷ C)) W (omega arith))
 
@@ -148,11 +148,11 @@ module _ (e : ℕ) where
   abbrev listF : ℕ → Stmts → Stmts → List SectionCode
   listF n t f = let nf = suc n + orOne t (sectionsMade t) in let nj = nf + orOne f (sectionsMade f) in orEmpty f nj (stmtSections true e nf nj f)
 
-  abbrev head_i : ℕ → List Instruction → ℕ → Stmts → SectionCode
-  head_i n o c t = inner (ownCode e o ++ cond_code t c (suc n)) (section (suc n + orOne t (sectionsMade t)))
+  abbrev headI : ℕ → List Instruction → ℕ → Stmts → SectionCode
+  headI n o c t = inner (ownCode e o ++ condCode t c (suc n)) (section (suc n + orOne t (sectionsMade t)))
 
   abbrev blockI : ℕ → List Instruction → ℕ → Stmts → Stmts → List SectionCode
-  blockI n o c t f = head_i n o c t ∷ (listT n t f ++ listF n t f)
+  blockI n o c t f = headI n o c t ∷ (listT n t f ++ listF n t f)
 
   length-T : (n : ℕ) (t f : Stmts) → length (listT n t f) ≡ orOne t (sectionsMade t)
   length-T n t f = let nj = suc n + orOne t (sectionsMade t) + orOne f (sectionsMade f) in length-orEmpty t nj (stmtSections true e (suc n) nj t) (length-low true e (suc n) nj t)
@@ -163,8 +163,8 @@ module _ (e : ℕ) where
   length-I : (n : ℕ) (o : List Instruction) (c : ℕ) (t f : Stmts) → length (blockI n o c t f) ≡ suc (orOne t (sectionsMade t) + orOne f (sectionsMade f))
   length-I n o c t f = omega (arith, length-append (listT n t f) (listF n t f), length-T n t f, length-F n t f)
 
-  block-assoc : (n : ℕ) (o : List Instruction) (c : ℕ) (t f : Stmts) (R : List SectionCode) → head_i n o c t ∷ (listT n t f ++ (listF n t f ++ R)) ≡ blockI n o c t f ++ R
-  block-assoc n o c t f R = ap (λ (l : List SectionCode). head_i n o c t ∷ l) (sym (append_assoc (listT n t f) (listF n t f) R))
+  block-assoc : (n : ℕ) (o : List Instruction) (c : ℕ) (t f : Stmts) (R : List SectionCode) → headI n o c t ∷ (listT n t f ++ (listF n t f ++ R)) ≡ blockI n o c t f ++ R
+  block-assoc n o c t f R = ap (λ (l : List SectionCode). headI n o c t ∷ l) (sym (append_assoc (listT n t f) (listF n t f) R))
 
   chain : (s : Stmts) → Chained s
   unfolding ends
@@ -175,7 +175,7 @@ module _ (e : ℕ) where
         is = refl;
         close = λ M T j p.
             let q : length (M ++ A) ≡ n = omega (arith, length-append M A) in
-            ap (λ (l : List SectionCode). setNext l n (section j)) (regroup M A T z) ∙ (set_next (M ++ A) T z n (section j) q ∙ sym (regroup M A T (with_next z (section j))));
+            ap (λ (l : List SectionCode). setNext l n (section j)) (regroup M A T z) ∙ (set-next (M ++ A) T z n (section j) q ∙ sym (regroup M A T (withNext z (section j))));
         len = length-append A (z ∷ []);
       }
   chain (plain o s) = λ n a m A z h.
@@ -184,8 +184,8 @@ module _ (e : ℕ) where
       a
       (reduce (setNext (m ++ (A ++ (z ∷ stmtSections false e (suc n) 0 (plain o s)))) n (section (suc n))) a (some (suc n)) (ends (suc (suc n)) s))
       (reduce (setNext (m ++ (A ++ (z ∷ stmtSections false e (suc n) 0 (plain o s)))) n (section (suc n))) a (some (suc n)) (ends (suc (suc n)) s))
-      (λ j. A ++ (with_next z (section (suc n)) ∷ stmtSections true e (suc n) j (plain o s)))
-      (λ j. A ++ (with_next z (section (suc n)) ∷ stmtSections true e (suc n) j (plain o s)))
+      (λ j. A ++ (withNext z (section (suc n)) ∷ stmtSections true e (suc n) j (plain o s)))
+      (λ j. A ++ (withNext z (section (suc n)) ∷ stmtSections true e (suc n) j (plain o s)))
       (length A + suc (0 + suc (sectionsMade s)))
       (length A + suc (suc (sectionsMade s)))
       refl
@@ -195,12 +195,12 @@ module _ (e : ℕ) where
   chain (goto o r s) = λ n a m A z h.
       let X = inner (ownCode e o) (line r) in
       let R = stmtSections false e (suc (suc n)) 0 s in
-      let z' = with_next z (section (suc n)) in
+      let z' = withNext z (section (suc n)) in
       record {
         Y = A ++ (z' ∷ X ∷ R);
         en = none;
         is = reduce-none (setNext (m ++ (A ++ (z ∷ X ∷ R))) n (section (suc n))) a (ends (suc (suc n)) s) ∙ ap (λ (l : List SectionCode). (l, (a, none))) (link-step m A (X ∷ R) z n (section (suc n)) h);
-        close = λ M T j p. ap (λ (l : List SectionCode). M ++ ((A ++ (z' ∷ X ∷ l)) ++ T)) (low_any e (suc (suc n)) 0 j s);
+        close = λ M T j p. ap (λ (l : List SectionCode). M ++ ((A ++ (z' ∷ X ∷ l)) ++ T)) (low-any e (suc (suc n)) 0 j s);
         len = length-append A (z' ∷ X ∷ R) ∙ ap (λ (k : ℕ). length A + suc (suc k)) (length-low false e (suc (suc n)) 0 s);
       }
   chain (ite o c t f s) = λ n a m A z h.
@@ -211,8 +211,8 @@ module _ (e : ℕ) where
       a
       (reduce (setNext (m ++ (A ++ (z ∷ (C ++ (inner [] unfixed ∷ stmtSections false e (suc nj) 0 s))))) n (section (suc n))) a (some nj) (ends (suc nj) s))
       (reduce (setNext (m ++ (A ++ (z ∷ stmtSections false e (suc n) 0 (ite o c t f s)))) n (section (suc n))) a (some nj) (ends (suc nj) s))
-      (λ j. A ++ (with_next z (section (suc n)) ∷ (C ++ (inner [] (section (entry s (suc nj) j)) ∷ stmtSections true e (suc nj) j s))))
-      (λ j. A ++ (with_next z (section (suc n)) ∷ stmtSections true e (suc n) j (ite o c t f s)))
+      (λ j. A ++ (withNext z (section (suc n)) ∷ (C ++ (inner [] (section (entry s (suc nj) j)) ∷ stmtSections true e (suc nj) j s))))
+      (λ j. A ++ (withNext z (section (suc n)) ∷ stmtSections true e (suc n) j (ite o c t f s)))
       (length A + suc (length C + suc (sectionsMade s)))
       (length A + suc (sectionsMade (ite o c t f s)))
       (
@@ -220,7 +220,7 @@ module _ (e : ℕ) where
       (λ (l : List SectionCode). reduce (setNext (m ++ (A ++ (z ∷ l))) n (section (suc n))) a (some nj) (ends (suc nj) s))
       (block-assoc (suc n) o c t f (inner [] unfixed ∷ stmtSections false e (suc nj) 0 s))
       )
-      (λ j. ap (λ (l : List SectionCode). A ++ (with_next z (section (suc n)) ∷ l)) (sym (block-assoc (suc n) o c t f (inner [] (section (entry s (suc nj) j)) ∷ stmtSections true e (suc nj) j s))))
+      (λ j. ap (λ (l : List SectionCode). A ++ (withNext z (section (suc n)) ∷ l)) (sym (block-assoc (suc n) o c t f (inner [] (section (entry s (suc nj) j)) ∷ stmtSections true e (suc nj) j s))))
       (omega (arith, length-I (suc n) o c t f))
       (chain-on s (chain s) n a m A z C (inner [] unfixed) nj h (omega (arith, length-I (suc n) o c t f)))
 
@@ -232,11 +232,11 @@ module _ (e : ℕ) where
   abbrev First : Stmts → Type 0
   First s = (b : Bool) (n : ℕ) (m : List SectionCode) → length m ≡ n → LinkedUp m n (linkUp (m ++ flag b (stmtSections false e n 0 s)) (ends n s)) (λ j. flag b (stmtSections true e n j s)) (sectionsMade s)
 
-  first_plain : (o : List Instruction) (s : Stmts) → First (plain o s)
+  first-plain : (o : List Instruction) (s : Stmts) → First (plain o s)
   unfolding ends
-  first_plain o s b n m h =
+  first-plain o s b n m h =
       let X = sect b (ownCode e o) unfixed in
-      linked_up
+      linked-up
       m
       n
       (reduce (m ++ (X ∷ stmtSections false e (suc n) 0 s)) n (some n) (ends (suc n) s))
@@ -267,7 +267,7 @@ module _ (e : ℕ) where
         Y = X ∷ R;
         en = none;
         is = ap (λ (x : List SectionCode × Ends). (x.0, some x.1)) (reduce-none (m ++ (X ∷ R)) n (ends (suc n) s));
-        close = λ M T j p. ap (λ (l : List SectionCode). M ++ ((X ∷ l) ++ T)) (low_any e (suc n) 0 j s);
+        close = λ M T j p. ap (λ (l : List SectionCode). M ++ ((X ∷ l) ++ T)) (low-any e (suc n) 0 j s);
         len = ap suc (length-low false e (suc n) 0 s);
       }
 
@@ -275,12 +275,12 @@ module _ (e : ℕ) where
   unfolding ends
   first-ite o c t f s b n m h =
       let nj = suc n + orOne t (sectionsMade t) + orOne f (sectionsMade f) in
-      let H = sect b (ownCode e o ++ cond_code t c (suc n)) (section (suc n + orOne t (sectionsMade t))) in
+      let H = sect b (ownCode e o ++ condCode t c (suc n)) (section (suc n + orOne t (sectionsMade t))) in
       let TF = listT n t f ++ listF n t f in
       let J = inner [] unfixed in
       let R = stmtSections false e (suc nj) 0 s in
       let lTF : length TF ≡ orOne t (sectionsMade t) + orOne f (sectionsMade f) = omega (arith, length-I n o c t f) in
-      linked_up
+      linked-up
       m
       n
       (reduce (m ++ (H ∷ (listT n t f ++ (listF n t f ++ (J ∷ R))))) n (some nj) (ends (suc nj) s))
@@ -327,7 +327,7 @@ module _ (e : ℕ) where
         m
         (suc n)
         (thenPart n c (m₁ ++ stmtSections false e (suc n) 0 t, ends (suc n) t))
-        (sect b (ownCode e o ++ cond_code t c (suc n)) unfixed)
+        (sect b (ownCode e o ++ condCode t c (suc n)) unfixed)
         []
         (λ j. orEmpty t j (stmtSections true e (suc n) j t))
         (orOne t (sectionsMade t))
@@ -350,13 +350,13 @@ module _ (e : ℕ) where
               ∙ (append_assoc m (X₀ ∷ []) (E ∷ []) ∙ ap (λ (k : List Instruction). m ++ (sect b k unfixed ∷ E ∷ [])) (sym (append-nil (ownCode e o))))
               )
               (ap length (append-nil m₁) ∙ l₁);
-          close = λ M T j p. set_next M T E (suc n) (section j) p;
+          close = λ M T j p. set-next M T E (suc n) (section j) p;
           len = refl;
         }
 
-    then_some : (t : Stmts) → First t
+    then-some : (t : Stmts) → First t
         → Part m (suc n) (thenPart n c (m₁ ++ stmtSections false e (suc n) 0 t, ends (suc n) t)) (sect b (ownCode e o ++ (condJump (suc n) c ∷ [])) unfixed) [] (λ j. stmtSections true e (suc n) j t) (sectionsMade t)
-    then_some t h =
+    then-some t h =
         let i = condJump (suc n) c in
         let u = h false (suc n) m₁ l₁ in
         record {
@@ -372,19 +372,19 @@ module _ (e : ℕ) where
 
     then-part : (t : Stmts) → Then t
     then-part nil = then-nil
-    then-part (plain o' s) = then_some (plain o' s) (first_plain o' s)
-    then-part (goto o' r s) = then_some (goto o' r s) (first-goto o' r s)
-    then-part (ite o' c' t f s) = then_some (ite o' c' t f s) (first-ite o' c' t f s)
+    then-part (plain o' s) = then-some (plain o' s) (first-plain o' s)
+    then-part (goto o' r s) = then-some (goto o' r s) (first-goto o' r s)
+    then-part (ite o' c' t f s) = then-some (ite o' c' t f s) (first-ite o' c' t f s)
 
     module _ (X : SectionCode) (W : List SectionCode) (nf : ℕ) (hf : length (m ++ (X ∷ W)) ≡ nf) where
       abbrev m₂ : List SectionCode
       m₂ = m ++ (X ∷ W)
 
       abbrev Else : Stmts → Type 0
-      Else f = Part m nf (elsePart n (m₂ ++ stmtSections false e nf 0 f, ends nf f)) (with_next X (section nf)) W (λ j. orEmpty f j (stmtSections true e nf j f)) (orOne f (sectionsMade f))
+      Else f = Part m nf (elsePart n (m₂ ++ stmtSections false e nf 0 f, ends nf f)) (withNext X (section nf)) W (λ j. orEmpty f j (stmtSections true e nf j f)) (orOne f (sectionsMade f))
 
-      into : (Z : List SectionCode) → setNext (m₂ ++ Z) n (section nf) ≡ m ++ (with_next X (section nf) ∷ (W ++ Z))
-      into Z = ap (λ (l : List SectionCode). setNext l n (section nf)) (append_assoc m (X ∷ W) Z) ∙ set_next m (W ++ Z) X n (section nf) refl
+      into : (Z : List SectionCode) → setNext (m₂ ++ Z) n (section nf) ≡ m ++ (withNext X (section nf) ∷ (W ++ Z))
+      into Z = ap (λ (l : List SectionCode). setNext l n (section nf)) (append_assoc m (X ∷ W) Z) ∙ set-next m (W ++ Z) X n (section nf) refl
 
       else-nil : Else nil
       unfolding ends
@@ -396,11 +396,11 @@ module _ (e : ℕ) where
             is =
                 ap (λ (l : List SectionCode). (setNext (l ++ (E ∷ [])) n (section (length l)), some (length l))) (append-nil m₂)
                 ∙ (ap (λ (k : ℕ). (setNext (m₂ ++ (E ∷ [])) n (section k), some k)) hf ∙ ap (λ (l : List SectionCode). (l, some nf)) (into (E ∷ [])));
-            close = λ M T j p. set_next M T E nf (section j) p;
+            close = λ M T j p. set-next M T E nf (section j) p;
             len = refl;
           }
 
-      else-some : (f : Stmts) → First f → Part m nf (elsePart n (m₂ ++ stmtSections false e nf 0 f, ends nf f)) (with_next X (section nf)) W (λ j. stmtSections true e nf j f) (sectionsMade f)
+      else-some : (f : Stmts) → First f → Part m nf (elsePart n (m₂ ++ stmtSections false e nf 0 f, ends nf f)) (withNext X (section nf)) W (λ j. stmtSections true e nf j f) (sectionsMade f)
       else-some f h =
           let u = h false nf m₂ hf in
           record {
@@ -415,7 +415,7 @@ module _ (e : ℕ) where
 
       else-part : (f : Stmts) → Else f
       else-part nil = else-nil
-      else-part (plain o' s) = else-some (plain o' s) (first_plain o' s)
+      else-part (plain o' s) = else-some (plain o' s) (first-plain o' s)
       else-part (goto o' r s) = else-some (goto o' r s) (first-goto o' r s)
       else-part (ite o' c' t f s) = else-some (ite o' c' t f s) (first-ite o' c' t f s)
 
@@ -429,14 +429,14 @@ module _ (e : ℕ) where
       subst (λ (k : ℕ). CodegenData s false m k) p (h false m) ∙ ap (λ (l : List SectionCode). (m ++ l, ends n s)) (flag-false false e n 0 s)
 
   -- The two ends of an Ite are linked to the section behind it.
-  join_is : (m Y Z : List SectionCode) (X : SectionCode) (te fe : Option ℕ) (FT FF : ℕ → List SectionCode) (nt nf nj : ℕ)
+  join-is : (m Y Z : List SectionCode) (X : SectionCode) (te fe : Option ℕ) (FT FF : ℕ → List SectionCode) (nt nf nj : ℕ)
       → ((M T : List SectionCode) (j : ℕ) → length M ≡ nt → setEnd (M ++ (Y ++ T)) te j ≡ M ++ (FT j ++ T))
       → ((M T : List SectionCode) (j : ℕ) → length M ≡ nf → setEnd (M ++ (Z ++ T)) fe j ≡ M ++ (FF j ++ T))
       → suc (length m) ≡ nt
       → nt + length (FT nj) ≡ nf
       → length (m ++ (X ∷ (Y ++ Z))) ≡ nj
       → join (m ++ (X ∷ (Y ++ Z))) te fe ≡ m ++ (X ∷ (FT nj ++ (FF nj ++ (inner [] unfixed ∷ []))))
-  join_is m Y Z X te fe FT FF nt nf nj ct cf ht hf hj =
+  join-is m Y Z X te fe FT FF nt nf nj ct cf ht hf hj =
       let J = inner [] unfixed in
       let q₁ : (m ++ (X ∷ (Y ++ Z))) ++ (J ∷ []) ≡ (m ++ (X ∷ [])) ++ (Y ++ (Z ++ (J ∷ []))) = simp append_assoc in
       let q₂ : (m ++ (X ∷ [])) ++ (FT nj ++ (Z ++ (J ∷ []))) ≡ (m ++ (X ∷ FT nj)) ++ (Z ++ (J ∷ [])) = simp append_assoc in
@@ -481,11 +481,11 @@ module _ (e : ℕ) where
       let nf = suc n + orOne t (sectionsMade t) in
       let nj = nf + orOne f (sectionsMade f) in
       let pt = then-part b o c m t in
-      let X = sect b (ownCode e o ++ cond_code t c (suc n)) unfixed in
+      let X = sect b (ownCode e o ++ condCode t c (suc n)) unfixed in
       let Y = pt.Y in
       let lY : length (m ++ (X ∷ Y)) ≡ nf = omega (arith, length-append m (X ∷ Y), pt.len) in
       let pf = else-part b o c m X Y nf lY f in
-      let X' = with_next X (section nf) in
+      let X' = withNext X (section nf) in
       let Z = pf.Y in
       let FT : ℕ → List SectionCode = λ j. orEmpty t j (stmtSections true e (suc n) j t) in
       let FF : ℕ → List SectionCode = λ j. orEmpty f j (stmtSections true e nf j f) in
@@ -511,7 +511,7 @@ module _ (e : ℕ) where
       (FF nj)
       n
       nj
-      (join_is m Y Z X' pt.en pf.en FT FF (suc n) nf nj pt.close pf.close refl (ap (λ (k : ℕ). suc n + k) lT) lZ)
+      (join-is m Y Z X' pt.en pf.en FT FF (suc n) nf nj pt.close pf.close refl (ap (λ (k : ℕ). suc n + k) lT) lZ)
       lZ
       (omega (arith, lT, lF))
       gT.1
@@ -536,8 +536,8 @@ module _ (e : ℕ) where
 
 -- ---- the lines
 
-swap_is : (H R tl : List SectionCode) (x h : SectionCode) → swap ((H ++ (x ∷ R)) ++ (h ∷ tl)) (length H) (length (H ++ (x ∷ R))) ≡ H ++ (h ∷ (R ++ (x ∷ tl)))
-swap_is H R tl x h =
+swap-is : (H R tl : List SectionCode) (x h : SectionCode) → swap ((H ++ (x ∷ R)) ++ (h ∷ tl)) (length H) (length (H ++ (x ∷ R))) ≡ H ++ (h ∷ (R ++ (x ∷ tl)))
+swap-is H R tl x h =
     let i = length H in
     let n = length (H ++ (x ∷ R)) in
     let M = (H ++ (x ∷ R)) ++ (h ∷ tl) in
@@ -558,13 +558,13 @@ module _ (e : ℕ) (H R : List SectionCode) where
   m₀ = H ++ (absent ∷ R)
 
   abbrev OneLine : Stmts → Type 0
-  OneLine s = oneLine (length H) e m₀ s ≡ H ++ (head_of e (stmtSections true e (length m₀) e s) ∷ (R ++ tailOf (stmtSections true e (length m₀) e s)))
+  OneLine s = oneLine (length H) e m₀ s ≡ H ++ (headOf e (stmtSections true e (length m₀) e s) ∷ (R ++ tailOf (stmtSections true e (length m₀) e s)))
 
-  fix_none : (x : SectionCode) (l : List SectionCode) → isFixed x.success ≡ false → fixLine (H ++ (x ∷ l)) (length H) e ≡ H ++ (with_next x (section e) ∷ l)
-  fix_none x l h =
+  fix-none : (x : SectionCode) (l : List SectionCode) → isFixed x.success ≡ false → fixLine (H ++ (x ∷ l)) (length H) e ≡ H ++ (withNext x (section e) ∷ l)
+  fix-none x l h =
       let i = length H in
       let m = H ++ (x ∷ l) in
-      ap (λ (b : Bool). cond b m (setNext m i (section e))) (ap (λ (z : SectionCode). isFixed z.success) (get_or_at H x l absent i refl) ∙ h) ∙ set_next H l x i (section e) refl
+      ap (λ (b : Bool). cond b m (setNext m i (section e))) (ap (λ (z : SectionCode). isFixed z.success) (get_or_at H x l absent i refl) ∙ h) ∙ set-next H l x i (section e) refl
 
   fix-some : (x : SectionCode) (l : List SectionCode) → isFixed x.success ≡ true → fixLine (H ++ (x ∷ l)) (length H) e ≡ H ++ (x ∷ l)
   fix-some x l h =
@@ -573,7 +573,7 @@ module _ (e : ℕ) (H R : List SectionCode) where
       ap (λ (b : Bool). cond b m (setNext m i (section e))) (ap (λ (z : SectionCode). isFixed z.success) (get_or_at H x l absent i refl) ∙ h)
 
   line-nil : OneLine nil
-  line-nil = fix_none absent R refl ∙ ap (λ (l : List SectionCode). H ++ (head_of e [] ∷ l)) (sym (append-nil R))
+  line-nil = fix-none absent R refl ∙ ap (λ (l : List SectionCode). H ++ (headOf e [] ∷ l)) (sym (append-nil R))
 
   line-some : (s : Stmts) → First e s → (h : SectionCode) (tl : List SectionCode) → stmtSections true e (length m₀) e s ≡ h ∷ tl → isFixed h.success ≡ true
       → oneLine (length H) e m₀ s ≡ H ++ (asStart h ∷ (R ++ (absent ∷ tl)))
@@ -588,21 +588,21 @@ module _ (e : ℕ) (H R : List SectionCode) where
       ap (λ (x : List SectionCode × List Ends). fixLine (lineDone i e (linkUp x.0 x.1).0 (linkUp x.0 x.1).1) i e) (gen-is e s true m₀)
       ∙ (ap (λ (x : List SectionCode × Option Ends). fixLine (lineDone i e x.0 x.1) i e) u.is
       ∙ (ap (λ (l : List SectionCode). fixLine (swap l i n) i e) closed
-      ∙ (ap (λ (l : List SectionCode). fixLine l i e) (swap_is H R tl absent (asStart h)) ∙ fix-some (asStart h) (R ++ (absent ∷ tl)) g)))
+      ∙ (ap (λ (l : List SectionCode). fixLine l i e) (swap-is H R tl absent (asStart h)) ∙ fix-some (asStart h) (R ++ (absent ∷ tl)) g)))
 
-  one_line : (s : Stmts) → OneLine s
-  one_line nil = line-nil
-  one_line (plain o s) =
+  one-line : (s : Stmts) → OneLine s
+  one-line nil = line-nil
+  one-line (plain o s) =
       let n = length m₀ in
-      line-some (plain o s) (first_plain e o s) (inner (ownCode e o) (section (entry s (suc n) e))) (stmtSections true e (suc n) e s) refl refl
-  one_line (goto o r s) = let n = length m₀ in line-some (goto o r s) (first-goto e o r s) (inner (ownCode e o) (line r)) (stmtSections false e (suc n) e s) refl refl
-  one_line (ite o c t f s) =
+      line-some (plain o s) (first-plain e o s) (inner (ownCode e o) (section (entry s (suc n) e))) (stmtSections true e (suc n) e s) refl refl
+  one-line (goto o r s) = let n = length m₀ in line-some (goto o r s) (first-goto e o r s) (inner (ownCode e o) (line r)) (stmtSections false e (suc n) e s) refl refl
+  one-line (ite o c t f s) =
       let n = length m₀ in
       let nj = suc n + orOne t (sectionsMade t) + orOne f (sectionsMade f) in
       line-some
       (ite o c t f s)
       (first-ite e o c t f s)
-      (head_i e n o c t)
+      (headI e n o c t)
       (listT e n t f ++ (listF e n t f ++ (inner [] (section (entry s (suc nj) e)) ∷ stmtSections true e (suc nj) e s)))
       refl
       refl
@@ -615,7 +615,7 @@ lines-is L (s ∷ ss) i n H T hi hn =
     let R = replicate (length ss) absent ++ T in
     let M = H ++ (absent ∷ R) in
     let l = stmtSections true e n e s in
-    let hd = head_of e l in
+    let hd = headOf e l in
     let tl = tailOf l in
     let H' = H ++ (hd ∷ []) in
     let T' = T ++ tl in
@@ -623,8 +623,8 @@ lines-is L (s ∷ ss) i n H T hi hn =
     let lt : length tl ≡ sectionsMade s = length-tailOf l ∙ length-low true e n e s in
     let step : oneLine i e M s ≡ H' ++ (replicate (length ss) absent ++ T') =
     ap (λ (k : ℕ). oneLine k e M s) (sym hi)
-    ∙ (one_line e H R s
-    ∙ (ap (λ (k : ℕ). H ++ (head_of e (stmtSections true e k e s) ∷ (R ++ tailOf (stmtSections true e k e s)))) hn ∙ (simp append_assoc)))
+    ∙ (one-line e H R s
+    ∙ (ap (λ (k : ℕ). H ++ (headOf e (stmtSections true e k e s) ∷ (R ++ tailOf (stmtSections true e k e s)))) hn ∙ (simp append_assoc)))
     in
     ap (λ (m : List SectionCode). genLines L (suc i) m ss) step
     ∙ (lines-is

@@ -15,7 +15,7 @@ use Rattle.rules.specs.Machine.{SectionOrLine, unfixed, section, line, SectionCo
 use Rattle.rules.specs.Walk.{walkSections, Step, to, done, Leg, pre, State, run, follow, inside, through, enter, stepSection, across}
 use Rattle.rules.specs.Clean.{ren}
 use Rattle.rules.specs.Combine.{refsNext, refsCode, pair, hit, combineAt, combineFuel, combineSections}
-use Rattle.walks.specs.Walks.{goes_step, Match, m-to, m-done, covers, Covers, Within, within-trans, covers-within, covers-back}
+use Rattle.walks.specs.Walks.{goes-step, Match, m-to, m-done, covers, Covers, Within, within-trans, covers-within, covers-back}
 use Rattle.walks.specs.Renumber.{mapLeg, enter-ren, inside-append, inside-ext, Plays, plays-step, plays-then, Avoids}
 use Rattle.laws.specs.Lists.{not-both}
 use Rattle.joins.specs.Numbers.{fall-low}
@@ -155,7 +155,7 @@ module _ (L : ℕ) (pos : 0 < L) (m : List SectionCode) (ready : Ready L m) (i j
           (l ++ y.0)
           y.1
           (a-at-i os ∙ ap (mapLeg (fall j)) h)
-          (plays-then sb (i, os) (j, os') l (goes_step (b-at-i os ∙ e)) y.0 y.1 (plays-step sb (j, os') y refl))
+          (plays-then sb (i, os) (j, os') l (goes-step (b-at-i os ∙ e)) y.0 y.1 (plays-step sb (j, os') y refl))
           (through-avoids j L pos L≤j (get_or m j absent).instrs (get_or m j absent).success (refs-other m i j pr j (λ p. pr.apart (sym p))) os')
 
   sim : (a b : State) → R a b → Match sa sb R a b
@@ -192,27 +192,27 @@ module _ (L : ℕ) (pos : 0 < L) where
         back = λ os. covers-within (walkSections n L os) (walkSections m L os) (c os);
       }
 
-  kept_trans : (l m n : List SectionCode) → Kept L l m → Kept L m n → Kept L l n
-  kept_trans l m n p q =
+  kept-trans : (l m n : List SectionCode) → Kept L l m → Kept L m n → Kept L l n
+  kept-trans l m n p q =
       record {
         ready = q.ready;
         there = λ os. within-trans (walkSections l L os) (walkSections m L os) (walkSections n L os) (p.there os) (q.there os);
         back = λ os. within-trans (walkSections n L os) (walkSections m L os) (walkSections l L os) (q.back os) (p.back os);
       }
 
-  kept_self : (m : List SectionCode) → Ready L m → Kept L m m
-  kept_self m r = record { ready = r; there = λ os k. (k, inl refl); back = λ os k. (k, inl refl) }
+  kept-self : (m : List SectionCode) → Ready L m → Kept L m m
+  kept-self m r = record { ready = r; there = λ os k. (k, inl refl); back = λ os k. (k, inl refl) }
 
   kept-fuel : (k : ℕ) (m : List SectionCode) → Ready L m → Kept L m (combineFuel k m)
-  kept-fuel zero m r = kept_self m r
+  kept-fuel zero m r = kept-self m r
   kept-fuel (suc k) m r = go (pair m) refl (λ n q. kept-fuel k n q)
     where
       go : (o : Option (ℕ × ℕ)) → pair m ≡ o → ((n : List SectionCode) → Ready L n → Kept L n (combineFuel k n)) → Kept L m (combineFuel (suc k) m)
-      go none e ih = rw (e, combineFuel) (kept_self m r)
+      go none e ih = rw (e, combineFuel) (kept-self m r)
       go (some p) e ih =
           let n = combineAt m p.0 p.1 in
           let z = join-keeps m r p.0 p.1 (pair-found m p e) in
-          rw (e, combineFuel) (kept_trans m n (combineFuel k n) z (ih n z.ready))
+          rw (e, combineFuel) (kept-trans m n (combineFuel k n) z (ih n z.ready))
 
   -- Combining keeps the walk of every machine that is ready.
   pub combine-keeps : (m : List SectionCode) → Ready L m → Kept L m (combineSections m)

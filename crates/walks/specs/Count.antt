@@ -6,8 +6,8 @@ use Rattle.rules.specs.Instr.{Instruction, isJump, shown}
 use Rattle.rules.specs.Walk.{Halt, ask, to, done, Leg, onto, run, State}
 use Rattle.rules.specs.Script.{Stmts, nil, plain, goto, ite, Script}
 use Rattle.rules.specs.Assemble.{condJump, nextLine}
-use Rattle.rules.specs.ReadScript.{Out, behind, erred, gone, stop, thenOn, and_then, readOwn, readGoto, readIf, readCond, read, onward, stepLine, readScript, readIns}
-use Rattle.rules.specs.Demand.{Walk, Meets, SameFirst}
+use Rattle.rules.specs.ReadScript.{Out, behind, erred, gone, stop, thenOn, andThen, readOwn, readGoto, readIf, readCond, read, onward, stepLine, readScript, readIns}
+use Rattle.rules.specs.Preservation.{Walk, Meets, SameFirst}
 use Rattle.walks.specs.Claim.{Alike}
 use Rattle.joins.specs.Numbers.{lt-or-le}
 use Rattle.bounds.specs.Lengths.{nextLine-lt}
@@ -118,7 +118,7 @@ read-tame (plain o s) os = tame-then (read s) (read-tame s) os (readOwn o os).0 
 read-tame (goto o r s) os = tame-then (readGoto r) (goto-tame r) os (readOwn o os).0 (readOwn o os).1 (own-tame o os)
 read-tame (ite o c t u s) os =
     let R = readCond t c (read t) (read u) in
-    let y = and_then (readOwn o os) R in
+    let y = andThen (readOwn o os) R in
     tame-then (read s) (read-tame s) os y.0 y.1 (tame-then R (cond-tame t c (read t) (read u) (read-tame t) (read-tame u)) os (readOwn o os).0 (readOwn o os).1 (own-tame o os))
 
 -- ---- a list is silent, or lively
@@ -127,10 +127,10 @@ abbrev Kind : ReadScript → Type 0
 Kind f = Silent f ⊎ AllLively f
 
 -- f, then g.
-kind-then : (f g : ReadScript) → AllTame g → Kind f → Kind g → Kind (λ os. and_then (f os) g)
+kind-then : (f g : ReadScript) → AllTame g → Kind f → Kind g → Kind (λ os. andThen (f os) g)
 kind-then f g t (inr h) k = inr (λ os. lively-then g t os (f os).0 (f os).1 (h os))
-kind-then f g t (inl h) (inl k) = inl (λ os. ap (λ (x : List Instruction × Out). and_then x g) (h os) ∙ k os)
-kind-then f g t (inl h) (inr k) = inr (λ os. subst (λ (x : List Instruction × Out). Lively os (and_then x g).0 (and_then x g).1) (sym (h os)) (k os))
+kind-then f g t (inl h) (inl k) = inl (λ os. ap (λ (x : List Instruction × Out). andThen x g) (h os) ∙ k os)
+kind-then f g t (inl h) (inr k) = inr (λ os. subst (λ (x : List Instruction × Out). Lively os (andThen x g).0 (andThen x g).1) (sym (h os)) (k os))
 
 kind-own : (o : List Instruction) → Kind (readOwn o)
 kind-own [] = inl (λ os. refl)
@@ -149,7 +149,7 @@ kind (goto o r s) = kind-then (readOwn o) (readGoto r) (goto-tame r) (kind-own o
 kind (ite o c t u s) =
     let R = readCond t c (read t) (read u) in
     let hR = cond-tame t c (read t) (read u) (read-tame t) (read-tame u) in
-    kind-then (λ os. and_then (readOwn o os) R) (read s) (read-tame s) (kind-then (readOwn o) R hR (kind-own o) (kind-cond t c (read t) (read u) (read-tame t) (read-tame u) (kind u))) (kind s)
+    kind-then (λ os. andThen (readOwn o os) R) (read s) (read-tame s) (kind-then (readOwn o) R hR (kind-own o) (kind-cond t c (read t) (read u) (read-tame t) (read-tame u) (kind u))) (kind s)
 
 not-both : (f : ReadScript) → Silent f → AllLively f → ⊥
 not-both f h k = let z = subst (λ (x : List Instruction × Out). Lively [] x.0 x.1) (h []) (k []) in omega arith
@@ -223,8 +223,8 @@ module _ (t : Script) where
         go (inl h) = inr (h, omega arith)
         go (inr h) = inl (h, omega arith)
 
-    near_next : (i d : ℕ) → i < length t → (i ≡ j → ⊥) → Near i (suc d) → Near (nextLine (length t) i) d
-    near_next i d h ne n = go (eqb (suc i) (length t)) refl n
+    near-next : (i d : ℕ) → i < length t → (i ≡ j → ⊥) → Near i (suc d) → Near (nextLine (length t) i) d
+    near-next i d h ne n = go (eqb (suc i) (length t)) refl n
       where
         go : (b : Bool) → eqb (suc i) (length t) ≡ b → Near i (suc d) → Near (nextLine (length t) i) d
         go true q (inl (a, c)) = absurd (omega (arith, eqb-true (suc i) (length t) q, ne))
@@ -232,9 +232,9 @@ module _ (t : Script) where
         go false q (inl (a, c)) = rw q (inl (omega (arith, ne), omega (arith, ne)))
         go false q (inr (a, c)) = rw q (inr (omega arith, omega arith))
 
-    near_none : (i : ℕ) → i < length t → (i ≡ j → ⊥) → Near i 0 → ⊥
-    near_none i h ne (inl (a, c)) = ne (omega arith)
-    near_none i h ne (inr (a, c)) = omega arith
+    near-none : (i : ℕ) → i < length t → (i ≡ j → ⊥) → Near i 0 → ⊥
+    near-none i h ne (inl (a, c)) = ne (omega arith)
+    near-none i h ne (inr (a, c)) = omega arith
 
     abbrev Tells : ℕ → Type 0
     Tells B = (n : ℕ) (s : State) → s.0 < length t → n + length s.1 ≤ B → Told n s
@@ -259,7 +259,7 @@ module _ (t : Script) where
     inner B ih zero n s p h b w = go (kind (get_or t s.0 nil))
       where
         go : Kind (read (get_or t s.0 nil)) → Told n s
-        go (inl k) = absurd (near_none s.0 h (λ e. not-both (read (get_or t s.0 nil)) k (subst (λ (i : ℕ). AllLively (read (get_or t i nil))) (sym e) live)) w)
+        go (inl k) = absurd (near-none s.0 h (λ e. not-both (read (get_or t s.0 nil)) k (subst (λ (i : ℕ). AllLively (read (get_or t i nil))) (sym e) live)) w)
         go (inr k) = let y = read (get_or t s.0 nil) s.1 in lively-step B ih n s p h b y.0 y.1 refl (k s.1)
     inner B ih (suc d) n s p h b w = go (kind (get_or t s.0 nil)) (λ z. inner B ih d n z)
       where
@@ -281,7 +281,7 @@ module _ (t : Script) where
             p
             (nextLine-lt (length t) s.0 h)
             b
-            (near_next s.0 d h (λ e. not-both (read (get_or t s.0 nil)) k (subst (λ (i : ℕ). AllLively (read (get_or t i nil))) (sym e) live)) w)
+            (near-next s.0 d h (λ e. not-both (read (get_or t s.0 nil)) k (subst (λ (i : ℕ). AllLively (read (get_or t i nil))) (sym e) live)) w)
             )
         go (inr k) more_of = let y = read (get_or t s.0 nil) s.1 in lively-step B ih n s p h b y.0 y.1 refl (k s.1)
 

@@ -1,4 +1,4 @@
--- Demand 3 of any script that has a line.
+-- Preservation of any script that has a line.
 use Rattle.std.specs.Prelude.{◌≡◌, ℕ, ◌<◌, length, get_or}
 use Rattle.std.proofs.Common.{sym, ap, inl, arith}
 use Rattle.std.proofs.Math.Path.{subst}
@@ -13,14 +13,14 @@ use Rattle.rules.specs.Script.{Script}
 use Rattle.rules.specs.Assemble.{sectionsOf}
 use Rattle.rules.specs.ReadScript.{readScript}
 use Rattle.machines.specs.FinishedCode.{finish}
-use Rattle.rules.specs.Demand.{SameWalk, prune}
-use Rattle.walks.specs.Claim.{Alike, Safe, Demand3}
+use Rattle.rules.specs.Preservation.{SameWalk, prune}
+use Rattle.walks.specs.Claim.{Alike, Safe, PreservesScript}
 use Rattle.bounds.specs.Good.{SectGood}
 use Rattle.walks.specs.Walks.{Within, within-trans, covers-within, covers-back, within-safe, same-walk}
 use Rattle.joins.specs.Along.{Ready, combine-ends}
 use Rattle.walks.specs.CombineWalk.{Kept, combine-keeps}
 use Rattle.walks.specs.CleanWalk.{clean-same}
-use Rattle.machines.specs.Ranks.{clean_ready}
+use Rattle.machines.specs.Ranks.{clean-ready}
 use Rattle.rules.specs.Replace.{Regs, replaceSections}
 use Rattle.rules.specs.Reading.{repScript}
 use Rattle.bounds.specs.ReplaceScript.{length-rep, lower-rep}
@@ -32,7 +32,7 @@ use Rattle.machines.specs.Lowered.{lower-fixed, lower-starts}
 
 module _ (t : Script) (pos : 0 < length t) where
   ready : Ready (length t) (cleanSections (sectionsOf t))
-  ready = clean_ready (length t) pos (sectionsOf t) (lower-fixed t pos) (lower-starts t pos)
+  ready = clean-ready (length t) pos (sectionsOf t) (lower-fixed t pos) (lower-starts t pos)
 
   kept : Kept (length t) (cleanSections (sectionsOf t)) (finish t)
   unfolding finish
@@ -53,22 +53,22 @@ module _ (t : Script) (pos : 0 < length t) where
     low-safe : Safe (walkSections (sectionsOf t) (length t) os)
     low-safe = within-safe (walkSections (sectionsOf t) (length t) os) (readScript t os) low-to-tree (tree-safe t os)
 
-    low_alike : Alike (walkSections (sectionsOf t) (length t) os) (readScript t os)
-    low_alike = same-walk (walkSections (sectionsOf t) (length t) os) (readScript t os) low-to-tree tree-to-low
+    low-alike : Alike (walkSections (sectionsOf t) (length t) os) (readScript t os)
+    low-alike = same-walk (walkSections (sectionsOf t) (length t) os) (readScript t os) low-to-tree tree-to-low
 
     -- The lowered sections are walked as the script is read,
-    pub low_same : SameWalk (walkSections (sectionsOf t) (length t) os) (readScript t os)
-    low_same = record { firsts = agree t pos os (walkSections (sectionsOf t) (length t) os) low_alike; stops = low_alike.stops }
+    pub low-same : SameWalk (walkSections (sectionsOf t) (length t) os) (readScript t os)
+    low-same = record { firsts = agree t pos os (walkSections (sectionsOf t) (length t) os) low-alike; stops = low-alike.stops }
 
     -- and cleaning keeps each step.
-    pub clean_is : (k : ℕ) → walkSections (cleanSections (sectionsOf t)) (length t) os k ≡ walkSections (sectionsOf t) (length t) os k
-    clean_is = clean-same (length t) pos (sectionsOf t) (lower-fixed t pos) os low-safe
+    pub clean-is : (k : ℕ) → walkSections (cleanSections (sectionsOf t)) (length t) os k ≡ walkSections (sectionsOf t) (length t) os k
+    clean-is = clean-same (length t) pos (sectionsOf t) (lower-fixed t pos) os low-safe
 
     clean-to-tree : Within (walkSections (cleanSections (sectionsOf t)) (length t) os) (readScript t os)
-    clean-to-tree = within-trans (walkSections (cleanSections (sectionsOf t)) (length t) os) (walkSections (sectionsOf t) (length t) os) (readScript t os) (λ k. (k, inl (sym (clean_is k)))) low-to-tree
+    clean-to-tree = within-trans (walkSections (cleanSections (sectionsOf t)) (length t) os) (walkSections (sectionsOf t) (length t) os) (readScript t os) (λ k. (k, inl (sym (clean-is k)))) low-to-tree
 
     tree-to-clean : Within (readScript t os) (walkSections (cleanSections (sectionsOf t)) (length t) os)
-    tree-to-clean = within-trans (readScript t os) (walkSections (sectionsOf t) (length t) os) (walkSections (cleanSections (sectionsOf t)) (length t) os) tree-to-low (λ k. (k, inl (clean_is k)))
+    tree-to-clean = within-trans (readScript t os) (walkSections (sectionsOf t) (length t) os) (walkSections (cleanSections (sectionsOf t)) (length t) os) tree-to-low (λ k. (k, inl (clean-is k)))
 
     fin-to-tree : Within (walkSections (finish t) (length t) os) (readScript t os)
     fin-to-tree = within-trans (walkSections (finish t) (length t) os) (walkSections (cleanSections (sectionsOf t)) (length t) os) (readScript t os) (kept.back os) clean-to-tree
@@ -91,8 +91,8 @@ module _ (t : Script) (pos : 0 < length t) where
     same-pruned : Alike (walkSections (finish t) (length t) os) (readScript (map prune t) os)
     same-pruned = same-walk (walkSections (finish t) (length t) os) (readScript (map prune t) os) fin-to-pruned pruned-to-fin
 
-  pub demand3 : (os : List ℕ) → Demand3 (length t) t (finish t) os
-  demand3 os =
+  pub preservation : (os : List ℕ) → PreservesScript (length t) t (finish t) os
+  preservation os =
       record {
         same = record { firsts = agree t pos os (walkSections (finish t) (length t) os) (same os); stops = (same os).stops };
         found = fin-safe os;
@@ -105,10 +105,10 @@ module _ (t : Script) (pos : 0 < length t) where
 
 -- With replacement between: the machine is yogi's (codegen, replacement, cleaning, combining), and the script that is read is the script with
 -- its instructions replaced by the same rules, in the same order, and with nothing out of a machine.
-pub demand3-replaced : (p : ℕ) (σ : Regs) (t : Script) → 0 < length t → (os : List ℕ)
-    → Demand3 (length t) (repScript p σ t).0 (combineSections (cleanSections (replaceSections p σ (sectionsOf t)).0)) os
+pub preservation-replaced : (p : ℕ) (σ : Regs) (t : Script) → 0 < length t → (os : List ℕ)
+    → PreservesScript (length t) (repScript p σ t).0 (combineSections (cleanSections (replaceSections p σ (sectionsOf t)).0)) os
 unfolding finish
-demand3-replaced p σ t pos os =
+preservation-replaced p σ t pos os =
     let u = (repScript p σ t).0 in
     let e : (replaceSections p σ (sectionsOf t)).0 ≡ sectionsOf u = ap (λ x. x.0) (lower-rep p σ t) in
-    subst (λ (L : ℕ). Demand3 L u (combineSections (cleanSections (replaceSections p σ (sectionsOf t)).0)) os) (length-rep p σ t) (subst (λ (m : List SectionCode). Demand3 (length u) u (combineSections (cleanSections m)) os) (sym e) (demand3 u (rw (length-rep p σ t) pos) os))
+    subst (λ (L : ℕ). PreservesScript L u (combineSections (cleanSections (replaceSections p σ (sectionsOf t)).0)) os) (length-rep p σ t) (subst (λ (m : List SectionCode). PreservesScript (length u) u (combineSections (cleanSections m)) os) (sym e) (preservation u (rw (length-rep p σ t) pos) os))

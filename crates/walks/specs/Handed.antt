@@ -82,9 +82,9 @@ counts-fit t u e = go (countsFit t u) refl e
     go false p q = absurd (not-both false q refl)
     go true p q = (p, q)
 
-runs_fit : (t : Tables) (u : Counts) → wordsFit t u ≡ true → runsFit u 0 0 (take u.sections t.sections) ≡ true
+runs-fit : (t : Tables) (u : Counts) → wordsFit t u ≡ true → runsFit u 0 0 (take u.sections t.sections) ≡ true
 unfolding wordsFit
-runs_fit t u e =
+runs-fit t u e =
     let a = allb (insFits u) (take u.instrs t.instrs) in
     let b = runsFit u 0 0 (take u.sections t.sections) in
     let c = allb (spanFits u) (take u.strings t.strings) in
@@ -98,7 +98,7 @@ begins t u = go (fits t u) refl
     go false e = rw (e, decode) tt
     go true e =
         let f = counts-fit t u e in
-        rw (e, decode) (some-line t u f.0, λ n h. starts u 0 0 (take u.sections t.sections) (take u.instrs t.instrs) (runs_fit t u f.1) n (omega arith))
+        rw (e, decode) (some-line t u f.0, λ n h. starts u 0 0 (take u.sections t.sections) (take u.instrs t.instrs) (runs-fit t u f.1) n (omega arith))
 
 -- ---- the call
 

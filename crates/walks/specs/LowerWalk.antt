@@ -7,15 +7,15 @@ use mathlib.Core.List.{List, [], ◌∷◌, ◌++◌, append_assoc}
 use Rattle.std.proofs.Math.Nat.{mod-lt}
 use Rattle.std.proofs.Math.ListN.{get_or}
 use Rattle.bounds.specs.Lengths.{length-low, length-orEmpty, nextLine-lt}
-use Rattle.machines.specs.Lowered.{SameAs, Stands, fits-cast, fits-left, fits-right, base, line-fits, at_head, fits-tail}
+use Rattle.machines.specs.Lowered.{SameAs, Stands, fits-cast, fits-left, fits-right, base, line-fits, at-head, fits-tail}
 use Rattle.rules.specs.Instr.{Instruction, isJump, shown, aimed}
 use Rattle.rules.specs.Machine.{SectionOrLine, section, line, SectionCode, absent}
 use Rattle.rules.specs.Walk.{Ask, atJump, atGoto, Halt, ask, lost, Step, to, done, more, over, Leg, pre, onto, run, State, Trace, follow, inside, through, enter, stepSection, walkSections, across}
 use Rattle.rules.specs.Script.{Stmts, nil, plain, goto, ite, Script, isNil}
-use Rattle.rules.specs.Assemble.{condJump, nextLine, orOne, sectionsMade, ownCode, entry, cond_code, inner, orEmpty, stmtSections, head_of, tailOf, sectionsOf}
-use Rattle.rules.specs.ReadScript.{Out, behind, erred, gone, stop, thenOn, and_then, readOwn, readGoto, readIf, readCond, read, onward, stepLine, readScript, readIns}
+use Rattle.rules.specs.Assemble.{condJump, nextLine, orOne, sectionsMade, ownCode, entry, condCode, inner, orEmpty, stmtSections, headOf, tailOf, sectionsOf}
+use Rattle.rules.specs.ReadScript.{Out, behind, erred, gone, stop, thenOn, andThen, readOwn, readGoto, readIf, readCond, read, onward, stepLine, readScript, readIns}
 use Rattle.walks.specs.Claim.{Safe}
-use Rattle.walks.specs.Walks.{Goes, Halts, goes-here, goes_step, halts-step, goes-goes, goes-halts, Match, m-to, m-done, covers, Covers}
+use Rattle.walks.specs.Walks.{Goes, Halts, goes-here, goes-step, halts-step, goes-goes, goes-halts, Match, m-to, m-done, covers, Covers}
 use Rattle.walks.specs.Renumber.{inside-append}
 use Rattle.bounds.specs.Jumps.{shown-aimed}
 
@@ -47,13 +47,13 @@ module _ (m : List SectionCode) (L e : ℕ) where
   after lo lo' a b k l l' (gone n os) g h = goes-goes g h
   after lo lo' a b k l l' (stop q) g h = goes-halts g h
 
-  follows_then : (lo lo' : ℕ) (b : State) (k₁ k : ℕ) (f : List ℕ → List Instruction × Out)
+  follows-then : (lo lo' : ℕ) (b : State) (k₁ k : ℕ) (f : List ℕ → List Instruction × Out)
       → ((os : List ℕ) → Follows lo' (k₁, os) k (f os).0 (f os).1)
       → (l : List Instruction) (o : Out) → Follows lo b k₁ l o → Follows lo b k (thenOn l o f).0 (thenOn l o f).1
-  follows_then lo lo' b k₁ k f h l (behind os) g = after lo lo' b (k₁, os) k l (f os).0 (f os).1 g (h os)
-  follows_then lo lo' b k₁ k f h l (erred os) g = g
-  follows_then lo lo' b k₁ k f h l (gone n os) g = g
-  follows_then lo lo' b k₁ k f h l (stop q) g = g
+  follows-then lo lo' b k₁ k f h l (behind os) g = after lo lo' b (k₁, os) k l (f os).0 (f os).1 g (h os)
+  follows-then lo lo' b k₁ k f h l (erred os) g = g
+  follows-then lo lo' b k₁ k f h l (gone n os) g = g
+  follows-then lo lo' b k₁ k f h l (stop q) g = g
 
   -- What is left of a section's step, l₁ and r, leads to what (l, o) says.
   abbrev Lead : ℕ → List Instruction → Step State → List Instruction → Out → Type 0
@@ -65,7 +65,7 @@ module _ (m : List SectionCode) (L e : ℕ) where
   lead-pre k l₀ l₁ (done f) l o (q, a, p, c) = (q, a, ap (λ (z : List Instruction). l₀ ++ z) p, c)
 
   lead-step : (b : State) (k : ℕ) (l₁ : List Instruction) (r : Step State) (l : List Instruction) (o : Out) → st b ≡ (l₁, r) → Lead k l₁ r l o → Follows 1 b k l o
-  lead-step b k l₁ (to s) l o p (l₂, q, f) = subst (λ (z : List Instruction). Follows 1 b k z o) (sym q) (after 1 0 b s k l₁ l₂ o (goes_step p) f)
+  lead-step b k l₁ (to s) l o p (l₂, q, f) = subst (λ (z : List Instruction). Follows 1 b k z o) (sym q) (after 1 0 b s k l₁ l₂ o (goes-step p) f)
   lead-step b k l₁ (done f) l o p (q, a, c, d) = subst (λ (z : Out). Follows 1 b k l z) (sym d) (halts-step (p ∙ ap₂ (λ (x : List Instruction) (y : Halt). (x, done y)) (sym c) a))
 
   then-pre : (i : Instruction) (l : List Instruction) (o : Out) (g : List ℕ → List Instruction × Out) → thenOn (i ∷ l) o g ≡ pre (i ∷ []) (thenOn l o g)
@@ -75,28 +75,28 @@ module _ (m : List SectionCode) (L e : ℕ) where
   then-pre i l (stop q) g = refl
 
   module _ (k : ℕ) (K : List ℕ → Leg State) (g : List ℕ → List Instruction × Out) (h : (os : List ℕ) → Lead k (K os).0 (K os).1 (g os).0 (g os).1) where
-    own-pre : (i : Instruction) (x : Leg State) (y : List Instruction × Out) → Lead k x.0 x.1 (and_then y g).0 (and_then y g).1
-        → Lead k (i ∷ x.0) x.1 (and_then (pre (i ∷ []) y) g).0 (and_then (pre (i ∷ []) y) g).1
+    own-pre : (i : Instruction) (x : Leg State) (y : List Instruction × Out) → Lead k x.0 x.1 (andThen y g).0 (andThen y g).1
+        → Lead k (i ∷ x.0) x.1 (andThen (pre (i ∷ []) y) g).0 (andThen (pre (i ∷ []) y) g).1
     own-pre i x y f =
         subst
         (λ (z : List Instruction × Out). Lead k (i ∷ x.0) x.1 z.0 z.1)
         (sym (then-pre i y.0 y.1 g))
-        (lead-pre k (i ∷ []) x.0 x.1 (and_then y g).0 (and_then y g).1 f)
+        (lead-pre k (i ∷ []) x.0 x.1 (andThen y g).0 (andThen y g).1 f)
 
     lead-ins : (b : Bool) (i : Instruction) (t : ℕ) (X : List ℕ → Leg State) (Y : List ℕ → List Instruction × Out)
-        → ((os : List ℕ) → Lead k (X os).0 (X os).1 (and_then (Y os) g).0 (and_then (Y os) g).1)
+        → ((os : List ℕ) → Lead k (X os).0 (X os).1 (andThen (Y os) g).0 (andThen (Y os) g).1)
         → (os : List ℕ)
-        → Lead k (across b i (cond b e t) X os).0 (across b i (cond b e t) X os).1 (and_then (readIns b i Y os) g).0 (and_then (readIns b i Y os) g).1
+        → Lead k (across b i (cond b e t) X os).0 (across b i (cond b e t) X os).1 (andThen (readIns b i Y os) g).0 (andThen (readIns b i Y os) g).1
     lead-ins false i t X Y f os = own-pre i (X os) (Y os) (f os)
     lead-ins true i t X Y f [] = (atJump i, refl, refl, refl)
     lead-ins true i t X Y f (zero ∷ os) = own-pre i (X os) (Y os) (f os)
     lead-ins true i t X Y f (suc a ∷ os) = ([], refl, goes-here st (e, os))
 
     own-lead : (o : List Instruction) (os : List ℕ)
-        → Lead k (inside (ownCode e o) K os).0 (inside (ownCode e o) K os).1 (and_then (readOwn o os) g).0 (and_then (readOwn o os) g).1
+        → Lead k (inside (ownCode e o) K os).0 (inside (ownCode e o) K os).1 (andThen (readOwn o os) g).0 (andThen (readOwn o os) g).1
     own-lead [] os = h os
     own-lead (i ∷ o) os =
-        let y = and_then (readOwn (i ∷ o) os) g in
+        let y = andThen (readOwn (i ∷ o) os) g in
         subst
         (
         λ (x : Instruction).
@@ -125,7 +125,7 @@ module _ (m : List SectionCode) (L e : ℕ) where
 
   -- A list of an Ite, entered at n; an empty one has a section of its own.
   branch : (s : Stmts) → Simulates s → (n k : ℕ) → Stands m n n (orEmpty s k (stmtSections true e n k s)) → (os : List ℕ) → Follows 0 (n, os) k (read s os).0 (read s os).1
-  branch nil h n k f os = goes-weak 1 (n, os) (k, os) [] (goes_step (at-step n [] (section k) os f.0))
+  branch nil h n k f os = goes-weak 1 (n, os) (k, os) [] (goes-step (at-step n [] (section k) os f.0))
   branch (plain o s) h n k f os = weak 1 (n, os) k (read (plain o s) os).0 (read (plain o s) os).1 (h n n k f os)
   branch (goto o r s) h n k f os = weak 1 (n, os) k (read (goto o r s) os).0 (read (goto o r s) os).1 (h n n k f os)
   branch (ite o c t u s) h n k f os = weak 1 (n, os) k (read (ite o c t u s) os).0 (read (ite o c t u s) os).1 (h n n k f os)
@@ -154,8 +154,8 @@ module _ (m : List SectionCode) (L e : ℕ) where
       → (os : List ℕ)
       → Lead
       k
-      (inside (cond_code t c n) (follow L (section nf)) os).0
-      (inside (cond_code t c n) (follow L (section nf)) os).1
+      (inside (condCode t c n) (follow L (section nf)) os).0
+      (inside (condCode t c n) (follow L (section nf)) os).1
       (readCond t c rt rf os).0
       (readCond t c rt rf os).1
   lead-cond k c n nf nil rt rf ht hf os = ((rf os).0, refl, hf os)
@@ -198,11 +198,11 @@ module _ (m : List SectionCode) (L e : ℕ) where
       let fBC : Stands m nf nf (B ++ C) = fits-cast m (suc n + length A) nf (B ++ C) (omega arith) (fits-right m (suc n) A (B ++ C) f.1) in
       let fB : Stands m nf nf B = fits-left m nf B C fBC in
       let fC : Stands m nj nj C = fits-cast m (nf + length B) nj C (omega arith) (fits-right m nf B C fBC) in
-      let K = inside (cond_code t c (suc n)) (follow L (section nf)) in
+      let K = inside (condCode t c (suc n)) (follow L (section nf)) in
       let G = readCond t c (read t) (read u) in
       let x = inside (ownCode e o) K os in
-      let y = and_then (readOwn o os) G in
-      follows_then
+      let y = andThen (readOwn o os) G in
+      follows-then
       1
       0
       (p, os)
@@ -220,7 +220,7 @@ module _ (m : List SectionCode) (L e : ℕ) where
       []
       (read s os').0
       (read s os').1
-      (goes-weak 1 (nj, os') (ns, os') [] (goes_step (at-step nj [] (section ns) os' fC.0)))
+      (goes-weak 1 (nj, os') (ns, os') [] (goes-step (at-step nj [] (section ns) os' fC.0)))
       (hs (suc nj) (suc nj) k fC.1 os')
       )
       y.0
@@ -233,7 +233,7 @@ module _ (m : List SectionCode) (L e : ℕ) where
       x.1
       y.0
       y.1
-      (at-step p (ownCode e o ++ cond_code t c (suc n)) (section nf) os f.0 ∙ inside-append (ownCode e o) (cond_code t c (suc n)) (follow L (section nf)) os)
+      (at-step p (ownCode e o ++ condCode t c (suc n)) (section nf) os f.0 ∙ inside-append (ownCode e o) (condCode t c (suc n)) (follow L (section nf)) os)
       (own-lead nj K G (lead-cond nj c (suc n) nf t (read t) (read u) (branch t ht (suc n) nj fA) (branch u hu nf nj fB)) o os)
       )
 
@@ -246,10 +246,10 @@ module _ (m : List SectionCode) (L e : ℕ) where
 -- ---- the lines
 
 module _ (m : List SectionCode) (L : ℕ) where
-  line-follows : (s : Stmts) (e u b : ℕ) → get_or m u absent ≡ head_of e (stmtSections true e b e s) → Stands m b b (tailOf (stmtSections true e b e s)) → (os : List ℕ)
+  line-follows : (s : Stmts) (e u b : ℕ) → get_or m u absent ≡ headOf e (stmtSections true e b e s) → Stands m b b (tailOf (stmtSections true e b e s)) → (os : List ℕ)
       → Follows m L e 1 (u, os) e (read s os).0 (read s os).1
   unfolding st
-  line-follows nil e u b h f os = goes_step (ap (λ (z : SectionCode). enter L z os) h)
+  line-follows nil e u b h f os = goes-step (ap (λ (z : SectionCode). enter L z os) h)
   line-follows (plain o s) e u b h f os = simulates m L e (plain o s) u b e (line-fits m L (stmtSections true e b e (plain o s)) e u b h f) os
   line-follows (goto o r s) e u b h f os = simulates m L e (goto o r s) u b e (line-fits m L (stmtSections true e b e (goto o r s)) e u b h f) os
   line-follows (ite o c t v s) e u b h f os = simulates m L e (ite o c t v s) u b e (line-fits m L (stmtSections true e b e (ite o c t v s)) e u b h f) os
@@ -279,7 +279,7 @@ module _ (t : Script) (pos : 0 < length t) where
       let u = a.0 in
       let s = get_or t u nil in
       let y = read s a.1 in
-      to-match a h y.0 y.1 refl (line-follows (sectionsOf t) (length t) s (nextLine L u) u (base L t u) (at_head t pos u h) (fits-tail t pos u h) a.1)
+      to-match a h y.0 y.1 refl (line-follows (sectionsOf t) (length t) s (nextLine L u) u (base L t u) (at-head t pos u h) (fits-tail t pos u h) a.1)
       )
 
   -- The lowered machine's walk is the tree's.

@@ -5,7 +5,7 @@ use Rattle.rules.specs.Instr.{Instruction, isJump, shown}
 use Rattle.rules.specs.Machine.{SectionOrLine, unfixed, section, line, SectionCode}
 use Rattle.rules.specs.Walk.{Step, to, done, Leg, pre, State, follow, inside, enter, through, across}
 use Rattle.rules.specs.Clean.{renIns, renNext, ren}
-use Rattle.walks.specs.Walks.{Goes, Halts, goes_step, halts-step, goes-goes, goes-halts}
+use Rattle.walks.specs.Walks.{Goes, Halts, goes-step, halts-step, goes-goes, goes-halts}
 use Rattle.bounds.specs.Jumps.{shown-aimed}
 
 abbrev pub mapRes : (ℕ → ℕ) → Step State → Step State
@@ -66,7 +66,7 @@ Plays st b l (to s) = Goes st 1 b l s
 Plays st b l (done f) = Halts st b l f
 
 plays-at : (st : State → Leg State) (b : State) (l : List Instruction) (r : Step State) → st b ≡ (l, r) → Plays st b l r
-plays-at st b l (to s) e = goes_step e
+plays-at st b l (to s) e = goes-step e
 plays-at st b l (done f) e = halts-step e
 
 pub plays-step : (st : State → Leg State) (b : State) (x : Leg State) → st b ≡ x → Plays st b x.0 x.1

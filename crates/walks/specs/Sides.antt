@@ -1,4 +1,4 @@
--- The other parts of demand 3: the sections entered, the registers, and what stands behind a goto.
+-- The other parts of preservation: the sections entered, the registers, and what stands behind a goto.
 use Rattle.std.specs.Prelude.{◌≡◌, ◌⊎◌, Bool, true, false, get_or}
 use Rattle.std.proofs.Math.Path.{refl}
 use Rattle.std.proofs.Common.{sym, ap, ◌∙◌, subst, inl, inr}
@@ -11,8 +11,8 @@ use Rattle.rules.specs.Machine.{SectionCode, absent}
 use Rattle.rules.specs.Walk.{atJump, atGoto, lost, Step, to, done, over, Leg, pre, onto, run, State, Trace, enter, stepSection, enters, walkSections}
 use Rattle.rules.specs.Script.{Stmts, nil, plain, goto, ite, Script}
 use Rattle.rules.specs.Assemble.{condJump, nextLine}
-use Rattle.rules.specs.ReadScript.{Out, behind, erred, gone, stop, thenOn, and_then, readOwn, readGoto, readIf, readCond, read, onward, stepLine, readScript, readIns}
-use Rattle.rules.specs.Demand.{Walk, All, prune}
+use Rattle.rules.specs.ReadScript.{Out, behind, erred, gone, stop, thenOn, andThen, readOwn, readGoto, readIf, readCond, read, onward, stepLine, readScript, readIns}
+use Rattle.rules.specs.Preservation.{Walk, All, prune}
 use Rattle.walks.specs.Claim.{Safe, GoodEnd}
 use Rattle.bounds.specs.Good.{CodeGood, Good, GoodTree}
 use Rattle.walks.specs.Walks.{Below, Within}
@@ -49,7 +49,7 @@ module _ (m : List SectionCode) (L : ℕ) where
 
 -- ---- what stands behind a goto is not read
 
-then-ext : (x : List Instruction × Out) (f g : List ℕ → List Instruction × Out) → ((os : List ℕ) → f os ≡ g os) → and_then x f ≡ and_then x g
+then-ext : (x : List Instruction × Out) (f g : List ℕ → List Instruction × Out) → ((os : List ℕ) → f os ≡ g os) → andThen x f ≡ andThen x g
 then-ext x f g h = go x.1
   where
     go : (o : Out) → thenOn x.0 o f ≡ thenOn x.0 o g
@@ -75,8 +75,8 @@ read-prune nil os = refl
 read-prune (plain o s) os = then-ext (readOwn o os) (read (prune s)) (read s) (read-prune s)
 read-prune (goto o r s) os = refl
 read-prune (ite o c t u s) os =
-    ap (λ (x : List Instruction × Out). and_then x (read (prune s))) (then-ext (readOwn o os) (readCond (prune t) c (read (prune t)) (read (prune u))) (readCond t c (read t) (read u)) (cond-ext t c (read (prune t)) (read t) (read (prune u)) (read u) (read-prune t) (read-prune u)))
-    ∙ then-ext (and_then (readOwn o os) (readCond t c (read t) (read u))) (read (prune s)) (read s) (read-prune s)
+    ap (λ (x : List Instruction × Out). andThen x (read (prune s))) (then-ext (readOwn o os) (readCond (prune t) c (read (prune t)) (read (prune u))) (readCond t c (read t) (read u)) (cond-ext t c (read (prune t)) (read t) (read (prune u)) (read u) (read-prune t) (read-prune u)))
+    ∙ then-ext (andThen (readOwn o os) (readCond t c (read t) (read u))) (read (prune s)) (read s) (read-prune s)
 
 step-prune : (t : Script) (s : State) → stepLine (map prune t) s ≡ stepLine t s
 step-prune t s =
@@ -141,16 +141,16 @@ module _ (P : Instruction → Type 0) (G : ℕ → Type 0) where
   ok-cond (goto o r s) c f g p hf hg os = ok-if c f g p hf hg os
   ok-cond (ite o c' t u s) c f g p hf hg os = ok-if c f g p hf hg os
 
-  ok_read : (s : Stmts) → Good P G s → (os : List ℕ) → Ok (read s os)
-  ok_read nil g os = (tt, tt)
-  ok_read (plain o s) g os = let x = ok-own o g.0 os in ok-then (read s) (ok_read s g.1) (readOwn o os).0 (readOwn o os).1 x.0 x.1
-  ok_read (goto o r s) g os = let x = ok-own o g.0 os in ok-then (readGoto r) (ok-goto r g.1) (readOwn o os).0 (readOwn o os).1 x.0 x.1
-  ok_read (ite o c t u s) g os =
+  ok-read : (s : Stmts) → Good P G s → (os : List ℕ) → Ok (read s os)
+  ok-read nil g os = (tt, tt)
+  ok-read (plain o s) g os = let x = ok-own o g.0 os in ok-then (read s) (ok-read s g.1) (readOwn o os).0 (readOwn o os).1 x.0 x.1
+  ok-read (goto o r s) g os = let x = ok-own o g.0 os in ok-then (readGoto r) (ok-goto r g.1) (readOwn o os).0 (readOwn o os).1 x.0 x.1
+  ok-read (ite o c t u s) g os =
       let x = ok-own o g.0 os in
       let R = readCond t c (read t) (read u) in
-      let y = and_then (readOwn o os) R in
-      let z = ok-then R (ok-cond t c (read t) (read u) g.1 (ok_read t g.2) (ok_read u g.3)) (readOwn o os).0 (readOwn o os).1 x.0 x.1 in
-      ok-then (read s) (ok_read s g.4) y.0 y.1 z.0 z.1
+      let y = andThen (readOwn o os) R in
+      let z = ok-then R (ok-cond t c (read t) (read u) g.1 (ok-read t g.2) (ok-read u g.3)) (readOwn o os).0 (readOwn o os).1 x.0 x.1 in
+      ok-then (read s) (ok-read s g.4) y.0 y.1 z.0 z.1
 
   good-at : (t : Script) → GoodTree P G t → (i : ℕ) → Good P G (get_or t i nil)
   good-at [] g i = tt
@@ -172,7 +172,7 @@ module _ (P : Instruction → Type 0) (G : ℕ → Type 0) where
     ok-run zero s = (tt, tt)
     ok-run (suc k) s =
         let y = read (get_or t s.0 nil) s.1 in
-        let x = ok_read (get_or t s.0 nil) (good-at t good s.0) s.1 in
+        let x = ok-read (get_or t s.0 nil) (good-at t good s.0) s.1 in
         ok-onto (λ z. run (stepLine t) k z) (λ z. ok-run k z) s.0 y.0 y.1 x.0 x.1
 
     -- Whatever is within the tree's walk meets only what the tree holds.

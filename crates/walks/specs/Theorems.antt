@@ -1,4 +1,4 @@
--- The results: of every accepted tree, demand 3 and what it rests on; of every machine, what joining and combining keep. `Finishes` (Calls) and
+-- The results: of every accepted tree, preservation and what it rests on; of every machine, what joining and combining keep. `Finishes` (Calls) and
 -- `Combines` (Handed) say it of the calls finish and combine themselves.
 use Rattle.std.specs.Prelude.{◌≡◌, true, ℕ, suc, ◌<◌, length}
 use Rattle.std.proofs.Math.Path.{sym, ap₂, subst}
@@ -15,11 +15,11 @@ use Rattle.rules.specs.Assemble.{sectionsOf}
 use Rattle.rules.specs.Clean.{cleanSections, cleaned}
 use Rattle.rules.specs.Combine.{combineAt, combineSections, pair}
 use Rattle.rules.specs.Lowered.{Options, assemble, lowered, finished}
-use Rattle.rules.specs.Operations.{size_of, estimate, cleanIn, combineIn, combine, finish}
+use Rattle.rules.specs.Operations.{sizeOf, estimate, cleanIn, combineIn, combine, finish}
 use Rattle.rules.specs.Walk.{walkSections, walk}
 use Rattle.rules.specs.ReadScript.{readScript}
 use Rattle.rules.specs.Reading.{script, reading}
-use Rattle.rules.specs.Demand.{SameWalk, Demand}
+use Rattle.rules.specs.Preservation.{SameWalk, Preserves}
 use Rattle.walks.specs.Claim.{Alike}
 use Rattle.walks.specs.Walks.{same-walk}
 use Rattle.walks.specs.Codegen.{codegen}
@@ -28,13 +28,13 @@ use Rattle.joins.specs.Along.{Ready, combine-ends}
 use Rattle.joins.specs.Pairs.{Pair}
 use Rattle.walks.specs.CombineWalk.{join-keeps, combine-keeps}
 use Rattle.joins.specs.Joins.{length-join}
-use Rattle.walks.specs.FinishWalk.{low_same, clean_is}
+use Rattle.walks.specs.FinishWalk.{low-same, clean-is}
 use Rattle.bounds.specs.LimitsTree.{limits}
 use Rattle.bounds.specs.Estimate.{WithinEstimate, estimated}
 use Rattle.bounds.specs.Bounds.{Small, small}
-use Rattle.machines.specs.TreeFits.{pos, lines_are, lowered-fits, cleaned-fits, finished-fits}
+use Rattle.machines.specs.TreeFits.{pos, lines-are, lowered-fits, cleaned-fits, finished-fits}
 use Rattle.bounds.specs.Stay as Stay
-use Rattle.walks.specs.DemandProof as Proof
+use Rattle.walks.specs.PreservationProof as Proof
 use Rattle.machines.specs.Passes as Passes
 use Rattle.walks.specs.Calls.{Finishes, finishes}
 use Rattle.walks.specs.Handed.{Combines, combines}
@@ -74,7 +74,7 @@ module _ (o : Options) (s : List ℕ) (t : Tree) (accepted : parse s ≡ ok t) w
       subst
       (λ (m : List SectionCode). SameWalk (walkSections m (lowered o t).lines os) (readScript k os))
       (sym (Stay.lowered-sections o t))
-      (subst (λ (L : ℕ). SameWalk (walkSections (sectionsOf k) L os) (readScript k os)) (sym (lines_are o t l)) (low_same k (pos o t l) os))
+      (subst (λ (L : ℕ). SameWalk (walkSections (sectionsOf k) L os) (readScript k os)) (sym (lines-are o t l)) (low-same k (pos o t l) os))
 
   -- makes the sections that codegen.rs makes,
   pub lowered-by-codegen : (assemble o t).sections ≡ codegen (annotate t).0
@@ -82,7 +82,7 @@ module _ (o : Options) (s : List ℕ) (t : Tree) (accepted : parse s ≡ ok t) w
   lowered-by-codegen = sym (codegen-is (annotate t).0)
 
   -- keeps within the estimates,
-  pub lowered-estimated : WithinEstimate (countsOf (lowered o t)) (estimate (size_of t))
+  pub lowered-estimated : WithinEstimate (countsOf (lowered o t)) (estimate (sizeOf t))
   lowered-estimated = estimated o t
 
   -- and within 65,535.
@@ -90,8 +90,8 @@ module _ (o : Options) (s : List ℕ) (t : Tree) (accepted : parse s ≡ ok t) w
   lowered-small = small o s t accepted
 
   -- Replacement adds no register: numbers and strings are those that lowering counted.
-  pub numbers_stay : (lowered o t).numbers ≡ (assemble o t).numbers
-  numbers_stay = Stay.numbers_stay o t
+  pub numbers-stay : (lowered o t).numbers ≡ (assemble o t).numbers
+  numbers-stay = Stay.numbers-stay o t
 
   pub strings-stay : (lowered o t).strings ≡ (assemble o t).strings
   strings-stay = Stay.strings-stay o t
@@ -105,18 +105,18 @@ module _ (o : Options) (s : List ℕ) (t : Tree) (accepted : parse s ≡ ok t) w
   cleaned-same os k =
       let l = limits s t accepted in
       let c = script t in
-      let a = lines_are o t l in
+      let a = lines-are o t l in
       let b = Stay.lowered-sections o t in
-      ap₂ (λ (m : List SectionCode) (L : ℕ). walkSections (cleanSections m) L os k) b a ∙ (clean_is c (pos o t l) os k ∙ sym (ap₂ (λ (m : List SectionCode) (L : ℕ). walkSections m L os k) b a))
+      ap₂ (λ (m : List SectionCode) (L : ℕ). walkSections (cleanSections m) L os k) b a ∙ (clean-is c (pos o t l) os k ∙ sym (ap₂ (λ (m : List SectionCode) (L : ℕ). walkSections m L os k) b a))
 
   -- Combining does not refuse the cleaned machine (neither 14 nor 15 occurs), and leaves no pair.
   pub combined-is : (l : Tables) → combineIn l (cleaned (lowered o t)) ≡ ok (finished o t)
   combined-is = Passes.combine-accepts o s t accepted
 
   pub combined-whole : pair (finished o t).sections ≡ none
-  combined-whole = (Proof.demand3 o s t accepted []).noPair
+  combined-whole = (Proof.preservation o s t accepted []).noPair
 
-  pub finished-estimated : WithinEstimate (countsOf (finished o t)) (estimate (size_of t))
+  pub finished-estimated : WithinEstimate (countsOf (finished o t)) (estimate (sizeOf t))
   finished-estimated = Passes.finished-estimated o s t accepted
 
   -- The lowered, the cleaned and the finished machine keep the rules of machine words.
@@ -129,9 +129,9 @@ module _ (o : Options) (s : List ℕ) (t : Tree) (accepted : parse s ≡ ok t) w
   pub finished-keeps-rules : fits (encode (finished o t)) (countsOf (finished o t)) ≡ true
   finished-keeps-rules = finished-fits o s t accepted
 
-  -- Demand 3, for every list of outcomes.
-  pub demand3 : (os : List ℕ) → Demand o t os
-  demand3 = Proof.demand3 o s t accepted
+  -- for every list of outcomes, the finished machine's walk preserves the tree's reading
+  pub preservation : (os : List ℕ) → Preserves o t os
+  preservation = Proof.preservation o s t accepted
 
 -- ---- the calls
 
@@ -141,6 +141,6 @@ pub combine-handed : (l : Tables) (u v : Counts) → (combine l u).0 ≡ ok v �
 combine-handed = combines
 
 -- For every byte string and lent tables that finish does not refuse: the words that it leaves are the finished machine of the tree that was
--- read, and demand 3 holds of it for every list of outcomes.
-pub finish-demand : (o : Options) (s : List ℕ) (l : Tables) (u : Counts) → (finish o s l).0 ≡ ok u → Finishes o s l u
-finish-demand = finishes
+-- read, whose walk preserves the reading for every list of outcomes.
+pub finish-preserves : (o : Options) (s : List ℕ) (l : Tables) (u : Counts) → (finish o s l).0 ≡ ok u → Finishes o s l u
+finish-preserves = finishes

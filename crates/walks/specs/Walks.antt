@@ -4,7 +4,7 @@ use Rattle.std.proofs.Common.{sym, ap, ◌∙◌, subst, inl, inr, append_assoc,
 use Rattle.std.proofs.lemmas.List.{take-append-le}
 use Rattle.rules.specs.Instr.{Instruction}
 use Rattle.rules.specs.Walk.{Ask, Halt, ask, lost, Step, to, done, more, over, Leg, Trace, pre, onto, run}
-use Rattle.rules.specs.Demand.{Walk, Meets, Stops}
+use Rattle.rules.specs.Preservation.{Walk, Meets, Stops}
 use Rattle.walks.specs.Claim.{Safe, Alike}
 
 -- ---- fuel, added so that it computes
@@ -13,17 +13,17 @@ abbrev pub up : ℕ → ℕ → ℕ
 up zero k = k
 up (suc j) k = suc (up j k)
 
-pub up_is : (j k : ℕ) → up j k ≡ j + k
-up_is zero k = sym (zero-add k)
-up_is (suc j) k = ap suc (up_is j k) ∙ sym (suc-add j k)
+pub up-is : (j k : ℕ) → up j k ≡ j + k
+up-is zero k = sym (zero-add k)
+up-is (suc j) k = ap suc (up-is j k) ∙ sym (suc-add j k)
 
 pub up-assoc : (i j k : ℕ) → up (up i j) k ≡ up i (up j k)
 up-assoc zero j k = refl
 up-assoc (suc i) j k = ap suc (up-assoc i j k)
 
-up_suc : (i k : ℕ) → up i (suc k) ≡ suc (up i k)
-up_suc zero k = refl
-up_suc (suc i) k = ap suc (up_suc i k)
+up-suc : (i k : ℕ) → up i (suc k) ≡ suc (up i k)
+up-suc zero k = refl
+up-suc (suc i) k = ap suc (up-suc i k)
 
 -- ---- one trace is another's beginning
 
@@ -47,11 +47,11 @@ module _ {S : Type 0} (st : S → Leg S) where
   below-onto F G l (to s) h = below-pre l (F s) (G s) (h s)
   below-onto F G l (done f) h = inl refl
 
-  pub run_more : (k k' : ℕ) → k ≤ k' → (s : S) → Below (run st k s) (run st k' s)
-  run_more zero k' h s = inr (refl, ((run st k' s).0, refl))
-  run_more (suc k) zero h s = absurd (not-suc-le-zero h)
-  run_more (suc k) (suc k') h s =
-      below-onto (λ z. run st k z) (λ z. run st k' z) (st s).0 (st s).1 (λ z. run_more k k' (le_of_suc-le-suc h) z)
+  pub run-more : (k k' : ℕ) → k ≤ k' → (s : S) → Below (run st k s) (run st k' s)
+  run-more zero k' h s = inr (refl, ((run st k' s).0, refl))
+  run-more (suc k) zero h s = absurd (not-suc-le-zero h)
+  run-more (suc k) (suc k') h s =
+      below-onto (λ z. run st k z) (λ z. run st k' z) (st s).0 (st s).1 (λ z. run-more k k' (le_of_suc-le-suc h) z)
 
 -- From s, in at least lo steps, l is met and s' reached. From s, l is met and then the walk is over.
 pub record Goes {S : Type 0} (st : S → Leg S) (lo : ℕ) (s : S) (l : List Instruction) (s' : S) : Type 0 where
@@ -67,8 +67,8 @@ pub goes-here : {S : Type 0} (st : S → Leg S) (s : S) → Goes st 0 s [] s
 goes-here st s = record { steps = 0; enough = omega arith; goes = λ k. refl }
 
 module _ {S : Type 0} {st : S → Leg S} where
-  pub goes_step : {s s' : S} {l : List Instruction} → st s ≡ (l, to s') → Goes st 1 s l s'
-  goes_step e = record { steps = 1; enough = omega arith; goes = λ k. ap (λ (x : Leg S). onto (λ z. run st k z) x.0 x.1) e }
+  pub goes-step : {s s' : S} {l : List Instruction} → st s ≡ (l, to s') → Goes st 1 s l s'
+  goes-step e = record { steps = 1; enough = omega arith; goes = λ k. ap (λ (x : Leg S). onto (λ z. run st k z) x.0 x.1) e }
 
   pub halts-step : {s : S} {l : List Instruction} {f : Halt} → st s ≡ (l, done f) → Halts st s l f
   halts-step e = record { steps = 0; halts = λ k. ap (λ (x : Leg S). onto (λ z. run st k z) x.0 x.1) e }
@@ -79,7 +79,7 @@ module _ {S : Type 0} {st : S → Leg S} where
       let j = h.steps in
       record {
         steps = up i j;
-        enough = omega (arith, up_is i j, g.enough);
+        enough = omega (arith, up-is i j, g.enough);
         goes =
             λ k.
             ap (λ n. run st n a) (up-assoc i j k)
@@ -92,7 +92,7 @@ module _ {S : Type 0} {st : S → Leg S} where
       let j = h.steps in
       record {
         steps = up i j;
-        halts = λ k. ap (λ n. run st n a) (ap suc (up-assoc i j k) ∙ sym (up_suc i (up j k))) ∙ (g.goes (suc (up j k)) ∙ ap (pre l) (h.halts k));
+        halts = λ k. ap (λ n. run st n a) (ap suc (up-assoc i j k) ∙ sym (up-suc i (up j k))) ∙ (g.goes (suc (up j k)) ∙ ap (pre l) (h.halts k));
       }
 
 -- ---- A's walk is B's, where each step of A is one or more of B
@@ -113,12 +113,12 @@ module _ {SA SB : Type 0} (sa : SA → Leg SA) (sb : SB → Leg SB) (R : SA → 
       go (m-to {l = l} {a' = a'} {b' = b'} e g r') ih =
           let (k'', le, p) = ih a' b' r' in (
             up g.steps k'',
-            omega (arith, up_is g.steps k'', g.enough),
+            omega (arith, up-is g.steps k'', g.enough),
             ap (λ (x : Leg SA). onto (λ z. run sa k z) x.0 x.1) e ∙ (ap (pre l) p ∙ sym (g.goes k'')),
           )
       go (m-done {l = l} e h) ih = (
         suc (up h.steps k),
-        omega (arith, up_is h.steps k),
+        omega (arith, up-is h.steps k),
         ap (λ (x : Leg SA). onto (λ z. run sa k z) x.0 x.1) e ∙ sym (h.halts k),
       )
 
@@ -137,7 +137,7 @@ pub covers-within : (v w : Walk) → Covers v w → Within v w
 covers-within v w c k = ((c k).0, inl (sym (c k).2))
 
 pub covers-back : {S : Type 0} (st : S → Leg S) (s : S) (v : Walk) → Covers v (λ k. run st k s) → Within (λ k. run st k s) v
-covers-back st s v c k = (k, rw (c k).2 (run_more st k (c k).0 (c k).1 s))
+covers-back st s v c k = (k, rw (c k).2 (run-more st k (c k).0 (c k).1 s))
 
 n-fits : (n : ℕ) (a l : List Instruction) → length l ≡ n → take n a ≡ l → n ≤ length a
 n-fits n a l h e = omega (arith, length-take n a, ap length e)

@@ -5,8 +5,8 @@ use Rattle.laws.specs.Table.{opcode-bits}
 use Rattle.laws.specs.Words.{ins-small}
 
 -- an opcode that was read has 6 bits
-pub op_lt : (w : ℕ) → (wordIns w).op < 64
-op_lt w = (ins-small w).0
+pub op-lt : (w : ℕ) → (wordIns w).op < 64
+op-lt w = (ins-small w).0
 
 -- so has one whose kinds are known
-pub ruleset opcodes = (op_lt, opcode-bits)
+pub ruleset opcodes = (op-lt, opcode-bits)

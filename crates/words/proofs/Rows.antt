@@ -3,11 +3,11 @@ use Rattle.std.proofs.Common.{◌≡◌, true, List, [], ◌∷◌, map, ℕ, ze
 use Rattle.std.proofs.Math.Option.{Option, none, some}
 use Rattle.std.proofs.Math.ListN.{get_elem?}
 use Rattle.rules.specs.Instr.{Instruction, ins₃, Kind, unused, num, str, val, place, Row, table, kinds, register, reads, modifies, fallOf, removeReg}
-use Rattle.laws.specs.Table.{Regs, is_reg, kind_at, read-regs, modified-reg}
+use Rattle.laws.specs.Table.{Regs, isReg, kindAt, read-regs, modified-reg}
 use Rattle.words.specs.Told.{regKind}
 
 -- a register's kind is taken for itself
-reg-kind : (k : Kind) → is_reg k ≡ true → regKind k ≡ k
+reg-kind : (k : Kind) → isReg k ≡ true → regKind k ≡ k
 reg-kind unused h = cc
 reg-kind num h = refl
 reg-kind str h = refl
@@ -20,7 +20,7 @@ taken r i zero = (regKind r.kinds.0, i.fst)
 taken r i (suc zero) = (regKind r.kinds.1, i.snd)
 taken r i (suc (suc n)) = (regKind r.kinds.2, i.thd)
 
-taken-field : (r : Row) (i : Instruction) (f : ℕ) → is_reg (kind_at r f) ≡ true → register r i f ≡ taken r i f
+taken-field : (r : Row) (i : Instruction) (f : ℕ) → isReg (kindAt r f) ≡ true → register r i f ≡ taken r i f
 unfolding register
 taken-field r i zero h = rw (reg-kind r.kinds.0 h)
 taken-field r i (suc zero) h = rw (reg-kind r.kinds.1 h)

@@ -22,9 +22,9 @@ pub enum SectionOrLine {
 impl SectionOrLine {
     // The kind and the target of its word.
 
-    #[tactic(auto, unfolding(rules::specs::Tables::kind_of))]
+    #[tactic(auto, unfolding(rules::specs::Tables::kindOf))]
     fn kind(self) -> u64
-        ensures { result ≡ Tables.kind_of (Runs.successTold self) }
+        ensures { result ≡ Tables.kindOf (Runs.successTold self) }
     {
         match self {
             SectionOrLine::Unfixed => SectionWord::SECTION,
@@ -33,9 +33,9 @@ impl SectionOrLine {
         }
     }
 
-    #[tactic(auto, unfolding(rules::specs::Tables::target_of))]
+    #[tactic(auto, unfolding(rules::specs::Tables::targetOf))]
     fn target(self) -> u16
-        ensures { result ≡ Tables.target_of (Runs.successTold self) }
+        ensures { result ≡ Tables.targetOf (Runs.successTold self) }
     {
         match self {
             SectionOrLine::Unfixed => MARK,
@@ -147,7 +147,7 @@ impl SectionWord {
         SectionOrLine::Section(Section(target))
     }
 
-    // The word with another successor, first instruction or count.
+    // The word with another successor or first instruction.
 
     #[tactic(auto, using(crate::proofs::Sections::one_bit))]
     pub fn with_success(self, success: SectionOrLine) -> SectionWord
@@ -172,19 +172,6 @@ impl SectionWord {
             self.target(),
             first,
             self.count(),
-        )
-    }
-
-    #[tactic(auto, using(crate::proofs::Sections::one_bit))]
-    pub fn with_count(self, count: u16) -> SectionWord
-        ensures { result.0 ≡ runWord (Runs.withCount count (wordRun self.0)) }
-    {
-        Self::word(
-            self.start(),
-            self.kind(),
-            self.target(),
-            self.first(),
-            count,
         )
     }
 }

@@ -1,7 +1,8 @@
 // A string's word: its text's place in the pool.
 //
 // Each function is shown equal to `spanWord` and `wordSpan` of `rules`, for every u32. Packing asks that the length has 7 bits.
-ghost use Rattle.std.specs.Prelude.{◌≡◌, ◌<◌};
+ghost use Rattle.rules.specs.Constants.{mostChars};
+ghost use Rattle.std.specs.Prelude.{◌≡◌, ◌≤◌};
 ghost use Rattle.rules.specs.Word.{spanWord, wordSpan, spanSpare};
 ghost use Rattle.words.specs.Runs as Runs;
 
@@ -12,7 +13,7 @@ pub struct StringWord(pub u32);
 impl StringWord {
     #[tactic(auto, unfolding(rules::specs::Word::spanWord))]
     pub fn pack(start: u16, length: u16) -> StringWord
-        requires { length < 128 }
+        requires { length ≤ mostChars }
         ensures { result.0 ≡ spanWord (Runs.span start length) }
     {
         StringWord(((start as u32) << 16) + ((length as u32) << 9))

@@ -1,5 +1,5 @@
 //! Lower and finish beside the judge: each file under each of the four options (a large one under one of them), on lent tables that are just
-//! long enough, longer, and one word short. They are full of old words before a call. Then the walks of demand 3 on the words that the
+//! long enough, longer, and one word short. They are full of old words before a call. Then walk and reading on the words that the
 //! library leaves.
 
 use crate::library;
@@ -114,7 +114,7 @@ impl<'a> Case<'a> {
 
     fn accepted(stage: Stage, file: &'a [u8], options: u8, old: &'a Tables, need: &Counts, tree: &Tree) -> Self {
         let Answer::Done(machine) = machine_of(stage, tree, Options::of_number(options)) else {
-            // no answer of document 01: the judge has none to hold the library to
+            // no answer of the rules: the judge has none to hold the library to
             panic!("yogi panics: {}", hex(file));
         };
         let (counts, words) = pack(&machine);

@@ -61,7 +61,7 @@ fn compare_change(tally: &mut Tally, case: &Case) {
     let (number, after) = match answer {
         Answer::Refused(n) => (n.into(), lent.clone()),
         Answer::Done(counts) => (0, counts.row().iter().map(|&n| n as u64).chain([GUARD]).collect()),
-        // no answer of document 01: the judge has none to hold the library to
+        // no answer of the rules: the judge has none to hold the library to
         Answer::Panic => panic!("yogi panics: {}", oracle::line::print(&case.1, &case.2)),
     };
     let mut words = lent;

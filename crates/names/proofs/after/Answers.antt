@@ -1,7 +1,7 @@
 -- A name's length is below 64.
 use Rattle.std.proofs.Common.{arith}
 use Rattle.names.specs.Names.{nextName, charsOf}
-use Rattle.bits.proofs.Bits.{spelled-lt}
+use Rattle.laws.specs.Texts.{spelled-lt}
 use Rattle.names.proofs.after.Goals as goal
 
 pub overflow_add-result-2 : goal.overflow_add-result-2

@@ -1,7 +1,7 @@
 -- Names compared one by one.
 use Rattle.std.proofs.Common.{arith}
 use mathlib.Core.Path.{◌∙◌}
-use Rattle.names.proofs.Laws.{known-yes, known-no, known-end, next-in, next-gt, end_more}
+use Rattle.names.proofs.Laws.{known-yes, known-no, known-end, next-in, next-gt, end-more}
 use Rattle.names.proofs.known.Goals as goal
 
 pub same-requires : goal.same-requires
@@ -20,7 +20,7 @@ pub loop-left-preserved : goal.loop-left-preserved
 loop-left-preserved c =
     let l = c.loop-left in
     let h = c.loop-left-test.true in
-    let g = end_more c.args.s.now l.left l.q h in
+    let g = end-more c.args.s.now l.left l.q h in
     rw c.after-q.ensures (known-no _ _ _ _ h c.if-same.ensures ∙ l.invariant.0, rw g l.invariant.1)
 
 pub returns : goal.returns

@@ -3,8 +3,8 @@ use Rattle.std.proofs.Common.{◌≡◌, arith}
 use mathlib.Core.Path.{sym, ◌∙◌}
 use Rattle.rules.specs.Bits.{spelled}
 use Rattle.names.specs.Names.{headerBits, nextName, charsOf}
-use Rattle.bits.proofs.Bits.{spelled-lt}
-use Rattle.names.proofs.Laws.{same_length, same_first, differ-first, chars-more, chars-differ, chars-end}
+use Rattle.laws.specs.Texts.{spelled-lt}
+use Rattle.names.proofs.Laws.{same-length, same-first, differ-first, chars-more, chars-differ, chars-end}
 use Rattle.names.proofs.same.Goals as goal
 
 pub returns-then-peek : goal.returns-then-peek
@@ -17,8 +17,8 @@ pub loop-left-init : goal.loop-left-init
 unfolding nextName charsOf
 loop-left-init c =
     let e : spelled c.args.s.now headerBits c.args.p ≡ spelled c.args.s.now headerBits c.args.q = sym c.peek.ensures ∙ c.if-peek.false ∙ c.peek-2.ensures in
-    let f = same_length c.args.s.now c.args.p c.args.q e in
-    (rw c.peek-left.ensures (same_first c.args.s.now c.args.p c.args.q e), (omega arith, omega arith))
+    let f = same-length c.args.s.now c.args.p c.args.q e in
+    (rw c.peek-left.ensures (same-first c.args.s.now c.args.p c.args.q e), (omega arith, omega arith))
 
 pub returns-then-peek-2 : goal.returns-then-peek-2
 returns-then-peek-2 c =

@@ -3,12 +3,12 @@ use Rattle.std.proofs.Common.{arith, refl}
 use Rattle.rules.specs.Parse.{iteOf}
 use Rattle.nodes.specs.Builds.{listR}
 use Rattle.bits.proofs.Gives.{then, stop, done, not-deep}
-use Rattle.nodes.proofs.Table.{agree-part, agree_trans, moved, moved-b}
+use Rattle.nodes.proofs.Table.{agree-part, agree-trans, moved, moved-b}
 use Rattle.nodes.proofs.Puts.{put-ite}
 use Rattle.nodes.proofs.Ite.{ite-lists, ite-fine, ite-adds}
 use Rattle.nodes.proofs.Built.{incdec-stmt, sealed, refuses, behind}
 use Rattle.nodes.proofs.Arms.{stmt-stop, arm-goto, arm-ite, arm-incdec, arm-assign}
-use Rattle.nodes.proofs.Lists.{list-then, list-stop, list-from, block-built, mid_start, mid-more, mid-stop}
+use Rattle.nodes.proofs.Lists.{list-then, list-stop, list-from, block-built, mid-start, mid-more, mid-stop}
 use Rattle.nodes.proofs.+statements.Goals as goal
 
 pub read_list-returns-in_default : goal.read_list-returns-in_default
@@ -19,7 +19,7 @@ pub read_list-returns : goal.read_list-returns
 read_list-returns t c = list-from _ c.in-Next.ensures.here c.read_block.ensures
 
 pub read_block-loop-left-init : goal.read_block-loop-left-init
-read_block-loop-left-init t c = mid_start _ _ _ _ _ _ c.requires.0.fine
+read_block-loop-left-init t c = mid-start _ _ _ _ _ _ c.requires.0.fine
 
 pub read_block-returns-in_default : goal.read_block-returns-in_default
 read_block-returns-in_default t c = refuses c.in_default.is (mid-stop c.loop-left.invariant c.loop-left-test.true c.in_default.ensures.here)
@@ -98,10 +98,10 @@ read_stmt-returns-in-Next-r3 t c =
     let n3 = z.counts in
     sealed _ _ _ c.close_ite.ensures (omega arith)
     (arm-ite _ _ c.in-1.is b.reads (then _ x.reads (list-then _ _ _ y.reads (list-then _ _ _ z.reads done))))
-    (agree_trans (agree-part x.kept (omega arith) (omega arith)) (agree_trans (agree-part y.kept (omega arith) (omega arith)) (agree-part z.kept (omega arith) (omega arith))))
+    (agree-trans (agree-part x.kept (omega arith) (omega arith)) (agree-trans (agree-part y.kept (omega arith) (omega arith)) (agree-part z.kept (omega arith) (omega arith))))
     (λ w a.
     put-ite _ _ _ _ w (ite-lists y.val z.val n2 n3 y.holds.few z.holds.few (omega arith) z.fine) b.moved.nodes
-    (moved (agree_trans (agree-part y.kept (omega arith) (omega arith)) (agree_trans (agree-part z.kept (omega arith) (omega arith)) (agree-part a (omega arith) (omega arith)))) x.holds.is)
-    (moved-b (agree_trans (agree-part z.kept (omega arith) (omega arith)) (agree-part a (omega arith) (omega arith))) y.holds.is)
+    (moved (agree-trans (agree-part y.kept (omega arith) (omega arith)) (agree-trans (agree-part z.kept (omega arith) (omega arith)) (agree-part a (omega arith) (omega arith)))) x.holds.is)
+    (moved-b (agree-trans (agree-part z.kept (omega arith) (omega arith)) (agree-part a (omega arith) (omega arith))) y.holds.is)
     (moved-b (agree-part a (omega arith) (omega arith)) z.holds.is))
     (ite-adds y.val z.val n2 n3 q n) (ite-fine y.val z.val n2 n3 (omega arith) z.fine)

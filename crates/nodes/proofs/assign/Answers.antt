@@ -3,7 +3,7 @@ use Rattle.std.proofs.Common.{arith, refl}
 use Rattle.rules.specs.Tree.{both, node, ofBlock, statement}
 use Rattle.rules.specs.Parse.{assignOf, assignops}
 use Rattle.nodes.specs.Width.{width}
-use Rattle.bits.proofs.Gives.{picked, op_ok, op-no, then, stop, done, named}
+use Rattle.bits.proofs.Gives.{picked, op-ok, op-no, then, stop, done, named}
 use Rattle.nodes.proofs.Table.{agree-part, moved}
 use Rattle.nodes.proofs.Puts.{put-assign}
 use Rattle.nodes.proofs.Built.{sealed, refuses}
@@ -23,7 +23,7 @@ unfolding assignOf assignops
 returns-in_default-r2 c =
     let o = c.in-Next-r1.ensures.here in
     refuses c.in_default-r2.is
-    (then _ (named _ c.in-Next.ensures.here.reads) (then _ (op_ok assignops 3 7 o.reads (picked assignops _ o.small).is) (stop _ c.in_default-r2.ensures.here)))
+    (then _ (named _ c.in-Next.ensures.here.reads) (then _ (op-ok assignops 3 7 o.reads (picked assignops _ o.small).is) (stop _ c.in_default-r2.ensures.here)))
 
 pub returns : goal.returns
 unfolding assignOf assignops ofBlock statement node both width
@@ -33,7 +33,7 @@ returns c =
     let r = c.in-Next-r2.ensures.here in
     let q = picked assignops _ o.small in
     let n = r.counts in
-    sealed _ _ _ c.close.ensures (omega arith) (then _ (named _ x.reads) (then _ (op_ok assignops 3 7 o.reads q.is) (then _ r.reads done)))
+    sealed _ _ _ c.close.ensures (omega arith) (then _ (named _ x.reads) (then _ (op-ok assignops 3 7 o.reads q.is) (then _ r.reads done)))
     (agree-part r.kept (omega arith) (omega arith))
     (λ w a. put-assign _ _ _ q.is w x.small (omega arith) (moved (agree-part a (omega arith) (omega arith)) r.holds.is))
     (record { adds = λ xs e q. omega arith }) r.fine

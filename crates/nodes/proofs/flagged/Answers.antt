@@ -3,7 +3,7 @@ use Rattle.std.proofs.Common.{arith}
 use Rattle.rules.specs.Tree.{node, emptyTally}
 use Rattle.nodes.specs.Builds.{flagR}
 use Rattle.bits.proofs.Gives.{then, stop, done, named}
-use Rattle.nodes.proofs.Table.{agree_refl}
+use Rattle.nodes.proofs.Table.{agree-refl}
 use Rattle.nodes.proofs.Built.{sealed, refuses}
 use Rattle.nodes.proofs.flagged.Goals as goal
 
@@ -20,5 +20,5 @@ unfolding flagR node emptyTally
 returns c =
     let b = c.in-Next.ensures.here in
     let x = c.in-Next-r1.ensures.here in
-    sealed _ _ _ c.close.ensures (omega arith) (then _ b.reads (then _ (named _ x.reads) done)) agree_refl
+    sealed _ _ _ c.close.ensures (omega arith) (then _ b.reads (then _ (named _ x.reads) done)) agree-refl
     (λ w a. record { last = omega arith; is = w; flag = b.small; known = x.small }) (omega arith) x.fine

@@ -4,7 +4,7 @@ use Rattle.rules.specs.Tree.{node, emptyTally, ofExpr}
 use Rattle.rules.specs.Parse.{identOf}
 use Rattle.nodes.specs.Holds.{at-ident}
 use Rattle.bits.proofs.Gives.{then, stop, done, named}
-use Rattle.nodes.proofs.Table.{agree_refl}
+use Rattle.nodes.proofs.Table.{agree-refl}
 use Rattle.nodes.proofs.Built.{sealed, refuses}
 use Rattle.nodes.proofs.ident.Goals as goal
 
@@ -16,5 +16,5 @@ pub returns : goal.returns
 unfolding identOf ofExpr node emptyTally
 returns c =
     let x = c.in-Next.ensures.here in
-    sealed _ _ _ c.close.ensures (omega arith) (then _ (named _ x.reads) done) agree_refl
+    sealed _ _ _ c.close.ensures (omega arith) (then _ (named _ x.reads) done) agree-refl
     (λ w a. at-ident _ (omega arith) w x.small) (omega arith) x.fine

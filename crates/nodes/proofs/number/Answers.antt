@@ -3,7 +3,7 @@ use Rattle.std.proofs.Common.{arith, refl}
 use Rattle.rules.specs.Tree.{node, emptyTally, ofExpr}
 use Rattle.nodes.specs.Holds.{at-number}
 use Rattle.bits.proofs.Gives.{then, stop, done, pass-bits, ends-bits}
-use Rattle.nodes.proofs.Table.{agree_refl}
+use Rattle.nodes.proofs.Table.{agree-refl}
 use Rattle.nodes.proofs.Built.{number-from, sealed, refuses}
 use Rattle.nodes.proofs.number.Goals as goal
 
@@ -14,5 +14,5 @@ pub returns : goal.returns
 unfolding ofExpr node emptyTally
 returns c =
     let x = c.in-Next.ensures.here in
-    sealed _ _ _ c.close.ensures (omega arith) (number-from (then _ (pass-bits x) done)) agree_refl
+    sealed _ _ _ c.close.ensures (omega arith) (number-from (then _ (pass-bits x) done)) agree-refl
     (λ w a. at-number _ _ (omega arith) w x.inside refl) (omega arith) x.fine

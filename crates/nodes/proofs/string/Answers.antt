@@ -4,7 +4,7 @@ use Rattle.rules.specs.Tree.{node, emptyTally, ofExpr}
 use Rattle.rules.specs.Parse.{stringOf}
 use Rattle.nodes.specs.Holds.{at-string}
 use Rattle.bits.proofs.Gives.{then, stop, done}
-use Rattle.nodes.proofs.Table.{agree_refl}
+use Rattle.nodes.proofs.Table.{agree-refl}
 use Rattle.nodes.proofs.Built.{chars-length, sealed, refuses}
 use Rattle.nodes.proofs.string.Goals as goal
 
@@ -22,5 +22,5 @@ returns c =
     let b = c.in-Next.ensures.here in
     let x = c.in-Next-r1.ensures.here in
     let n = chars-length c.args.s.now c.in-Next.l c.in-Next.d.pos in
-    sealed _ _ _ c.close.ensures (omega arith) (then _ b.reads (then _ x.reads done)) agree_refl
+    sealed _ _ _ c.close.ensures (omega arith) (then _ b.reads (then _ x.reads done)) agree-refl
     (λ w a. at-string _ _ _ (omega arith) w b.small (omega arith) refl) (omega arith) (omega arith)

@@ -1,12 +1,12 @@
 -- What is printed for a file that is too long, and at each answer that finishing another has.
 use Rattle.std.proofs.Common.{rules}
 use Rattle.rules.specs.Lowered.{defaults}
-use Rattle.printed.proofs.Files.{too_long}
+use Rattle.printed.proofs.Files.{too-long}
 use Rattle.printed.proofs.Calls.{refusal-prints, refused-prints, lists, listed-prints}
 use Rattle.printed.proofs.finlist.Goals as goal
 
 pub returns-then-input-gt-MOST_BYTES : goal.returns-then-input-gt-MOST_BYTES
-returns-then-input-gt-MOST_BYTES c = refusal-prints _ c.told-out c.row_r.ensures (too_long _ c.if-input-gt-MOST_BYTES.true)
+returns-then-input-gt-MOST_BYTES c = refusal-prints _ c.told-out c.row_r.ensures (too-long _ c.if-input-gt-MOST_BYTES.true)
 
 pub returns-in-Refused : goal.returns-in-Refused
 unfolding defaults

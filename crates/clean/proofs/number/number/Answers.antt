@@ -2,7 +2,7 @@
 use Rattle.std.proofs.Common.{◌≤◌, length, sym, ◌∙◌, arith}
 use Rattle.std.proofs.Math.ListN.{length-set}
 use Rattle.clean.specs.Pass.{withFirst}
-use Rattle.clean.proofs.Numbers.{number-done, number_more, bumps-done, bumps-more}
+use Rattle.clean.proofs.Numbers.{number-done, number-more, bumps-done, bumps-more}
 use Rattle.clean.proofs.number.number.Goals as goal
 
 pub loop-i-preserved : goal.loop-i-preserved
@@ -14,8 +14,8 @@ loop-i-preserved c =
     record {
       within = omega arith;
       few = omega arith;
-      same_length = simp length-set l.invariant.same_length;
-      rest = number_more l.sections l.i c.args.n l.k c.loop-i-test.true len _ _ k.0 c.with_first.ensures ∙ l.invariant.rest;
+      same-length = simp length-set l.invariant.same-length;
+      rest = number-more l.sections l.i c.args.n l.k c.loop-i-test.true len _ _ k.0 c.with_first.ensures ∙ l.invariant.rest;
       count = bumps-more l.sections l.i c.args.n l.k c.loop-i-test.true len _ _ k.0 c.with_first.ensures ∙ l.invariant.count;
     }
 

@@ -8,7 +8,7 @@ abbrev pub invariant-loop-i : goal.invariant-loop-i
 invariant-loop-i l = record {
   within : l.i ≤ l.n;
   few : l.k ≤ l.i;
-  same_length : length l.sections ≡ length l.fn.sections;
+  same-length : length l.sections ≡ length l.fn.sections;
   rest : take l.i l.sections ++ (numbered l.k (slice l.i l.n l.sections) ++ drop l.n l.sections) ≡ numbered 0 (take l.n l.fn.sections) ++ drop l.n l.fn.sections;
   count : bumps l.k (slice l.i l.n l.sections) ≡ bumps 0 (take l.n l.fn.sections);
 }

@@ -1,19 +1,19 @@
 -- One more section is passed over or kept.
 use Rattle.std.proofs.Common.{◌≤◌, length, sym, ◌∙◌, arith}
-use Rattle.tables.specs.Runs.{count_of, fixed_word}
+use Rattle.tables.specs.Runs.{countOf, fixedWord}
 use Rattle.clean.proofs.Single.{packed-word}
 use Rattle.clean.proofs.Packing.{pack-ends, pack-left, pack-skip, pack-keep}
 use Rattle.clean.proofs.pack.pack_down.Goals as goal
 
 pub loop-i-preserved-then-not-is_fixed : goal.loop-i-preserved-then-not-is_fixed
-unfolding count_of fixed_word
+unfolding countOf fixedWord
 loop-i-preserved-then-not-is_fixed c =
     let l = c.loop-i in
     let len : c.args.n ≤ length l.sections = omega arith in
     pack-skip _ _ _ _ _ _ _ _ _ _ l.invariant c.loop-i-test.true len _ c.count-count.ensures (sym c.is_fixed.ensures ∙ c.if-not-is_fixed.true)
 
 pub move_down-requires : goal.move_down-requires
-unfolding count_of
+unfolding countOf
 move_down-requires c =
     let l = c.loop-i in
     let len : c.args.n ≤ length l.sections = omega arith in
@@ -21,7 +21,7 @@ move_down-requires c =
     (l.invariant.b-a, omega (arith, c.count-count.ensures))
 
 pub loop-i-preserved : goal.loop-i-preserved
-unfolding count_of fixed_word
+unfolding countOf fixedWord
 loop-i-preserved c =
     let l = c.loop-i in
     let len : c.args.n ≤ length l.sections = omega arith in

@@ -1,7 +1,7 @@
 -- One more word leaves the wanted table.
 use Rattle.std.proofs.Common.{◌≤◌, length, ◌∙◌, arith}
 use Rattle.std.proofs.Math.ListN.{length-set}
-use Rattle.tables.proofs.InPlace.{map_more}
+use Rattle.tables.proofs.InPlace.{map-more}
 use Rattle.clean.proofs.retarget.retarget_instructions.Goals as goal
 
 pub loop-i-preserved : goal.loop-i-preserved
@@ -10,6 +10,6 @@ loop-i-preserved c =
     let len : c.args.e ≤ length l.instructions = omega arith in
     record {
       within = omega arith;
-      same_length = simp length-set l.invariant.same_length;
-      rest = map_more _ l.instructions l.i c.args.e c.loop-i-test.true len _ c.with_jump-v.ensures ∙ l.invariant.rest;
+      same-length = simp length-set l.invariant.same-length;
+      rest = map-more _ l.instructions l.i c.args.e c.loop-i-test.true len _ c.with_jump-v.ensures ∙ l.invariant.rest;
     }

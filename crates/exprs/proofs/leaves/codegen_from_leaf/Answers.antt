@@ -1,12 +1,13 @@
 -- The word's kind says which leaf it is, and its fields where to read it.
-use Rattle.std.proofs.Common.{arith, ◌/◌, ◌%◌}
+use Rattle.nodes.specs.Words.{nameIn, posIn}
+use Rattle.std.proofs.Common.{arith}
 use Rattle.rules.specs.Annotate.{codegenFromExpr}
 use Rattle.rules.specs.Bits.{isOne}
 use Rattle.rules.specs.Tree.{ofExpr, node, emptyTally}
 use Rattle.codegen.proofs.Laws.{same}
 use Rattle.exprs.specs.Exprs.{exprCost}
-use Rattle.exprs.proofs.Forms.{as_number, as-string}
-use Rattle.exprs.proofs.Texts.{length-chars}
+use Rattle.exprs.proofs.Forms.{as-number, as-string}
+use Rattle.nodes.proofs.Built.{chars-length}
 use Rattle.exprs.proofs.Trees.{incdec-at, ident-at, num-at, str-at, else-string, nodes-some, str-counts}
 use Rattle.exprs.proofs.leaves.codegen_from_leaf.Goals as goal
 
@@ -50,7 +51,7 @@ unfolding exprCost ofExpr node emptyTally
 returns-then-kind-eq-NUMBER c =
     λ u i m e j h q x.
     let b = num-at c.requires.short x q c.if-kind-eq-NUMBER.true in
-    rw b.is (record { does = same (as_number _) c.codegen_from_number.ensures.does.does; spent = omega arith })
+    rw b.is (record { does = same (as-number _) c.codegen_from_number.ensures.does.does; spent = omega arith })
 
 pub codegen_from_string-requires : goal.codegen_from_string-requires
 codegen_from_string-requires c =
@@ -70,5 +71,5 @@ returns c =
     let b = str-at p.short x q k in
     rw b.is (record {
       does = same (as-string _) c.codegen_from_string.ensures.does.does;
-      spent = omega (arith, length-chars c.args.s.now (c.args.w / 256 % 256) (c.args.w / 65536 % 524288));
+      spent = omega (arith, chars-length c.args.s.now (nameIn c.args.w) (posIn c.args.w));
     })

@@ -1,7 +1,7 @@
 -- An exchange of the outer words reverses them; a part of one word or none is its own reverse.
 use Rattle.std.proofs.Common.{◌≡◌, ℕ, suc, ◌-◌, ◌<◌, ◌≤◌, length, sym, ap, ◌∙◌, arith}
 use Rattle.join.specs.Parts.{turned}
-use Rattle.join.proofs.Turns.{turn-done, turn_more}
+use Rattle.join.proofs.Turns.{turn-done, turn-more}
 use Rattle.join.proofs.instructions.reverse.Goals as goal
 
 pub loop-lo-preserved : goal.loop-lo-preserved
@@ -10,7 +10,7 @@ loop-lo-preserved c =
     let k : l.lo < l.hi - 1 = omega arith in
     let n : l.hi - 1 < length l.t = omega arith in
     let z : suc (l.hi - 1) ≡ l.hi = omega arith in
-    (omega arith, omega arith, turn_more l.t l.lo (l.hi - 1) k n ∙ ap (λ (x : ℕ). turned l.lo x l.t) z ∙ l.invariant.2)
+    (omega arith, omega arith, turn-more l.t l.lo (l.hi - 1) k n ∙ ap (λ (x : ℕ). turned l.lo x l.t) z ∙ l.invariant.2)
 
 pub returns : goal.returns
 returns c =

@@ -7,7 +7,7 @@ use Rattle.stmts.specs.Lists.{only, rest, isEnd}
 use Rattle.stmts.specs.Parts.{ownCost, insideTally}
 use Rattle.stmts.proofs.Lists.{some-width, stored-empty}
 use Rattle.stmts.proofs.Parts.{one-parts}
-use Rattle.stmts.proofs.Places.{entry-same, not_end}
+use Rattle.stmts.proofs.Places.{entry-same, not-end}
 use Rattle.stmts.proofs.Splits.{split, parts, cut, first, others}
 use Rattle.stmts.proofs.Steps.{ready-first}
 use Rattle.line.specs.Lines.{innerNodes}
@@ -19,7 +19,7 @@ pub returns-then-count-eq0 : goal.returns-then-count-eq0
 unfolding ownCost innerNodes insideTally rest ofBlock emptyTally width
 returns-then-count-eq0 c = λ m x z h q.
     let e = is-end q c.if-count-eq0.true in
-    rw e.is (record { does = line-none c.put_section.ensures; cost = omega arith; spent = omega arith; number_is = omega arith })
+    rw e.is (record { does = line-none c.put_section.ensures; cost = omega arith; spent = omega arith; number-is = omega arith })
 
 pub offset_bounds-nodes-i : goal.offset_bounds-nodes-i
 offset_bounds-nodes-i c = let sp = cut c.requires.ready.list (omega arith) in omega arith
@@ -38,7 +38,7 @@ pub put_section-requires-2 : goal.put_section-requires-2
 put_section-requires-2 c =
     let p = c.requires.ready.list in
     let sp = cut p (omega arith) in
-    let wd = some-width (only p.block) (not_end sp.head (λ z. omega arith)) in
+    let wd = some-width (only p.block) (not-end sp.head (λ z. omega arith)) in
     omega (arith, parts p.block)
 
 pub codegen_from_inside-e-requires : goal.codegen_from_inside-e-requires
@@ -87,5 +87,5 @@ returns c = λ m x z h q.
           hd.does (stored-empty c.put_section-2.ensures refl) il.does (rw g.next at ls.does);
       cost = omega (arith, hd.cost, own-only x);
       spent = omega arith;
-      number_is = omega (arith, ls.number_is, g.number, sp.made, pa.widths);
+      number-is = omega (arith, ls.number-is, g.number, sp.made, pa.widths);
     }

@@ -1,6 +1,6 @@
 -- Line k is held, and what is left of the room is enough for it.
 use Rattle.std.proofs.Common.{arith}
-use Rattle.program.proofs.Script.{lines_on, lines_end, line-held, same-counts}
+use Rattle.program.proofs.Script.{lines-on, lines-end, line-held, same-counts}
 use Rattle.program.proofs.lines.codegen_from_lines.Goals as goal
 
 pub codegen_from_line-done-requires : goal.codegen_from_line-done-requires
@@ -25,8 +25,8 @@ loop-k-preserved c =
     record {
       same = omega (arith, i.same, a);
       within = omega arith;
-      mid = lines_on i.mid _ c.loop-k-test.true c.next_line.ensures c.aimed_at.ensures (omega (arith, a)) c.codegen_from_line-done.ensures;
+      mid = lines-on i.mid _ c.loop-k-test.true c.next_line.ensures c.aimed_at.ensures (omega (arith, a)) c.codegen_from_line-done.ensures;
     }
 
 pub returns : goal.returns
-returns c = λ m bs x z a h. lines_end c.loop-k.invariant.mid (omega arith) a h
+returns c = λ m bs x z a h. lines-end c.loop-k.invariant.mid (omega arith) a h

@@ -1,7 +1,7 @@
 -- What is counted, and what the words from i on add, is all that is added.
 use Rattle.std.proofs.Common.{◌≡◌, ◌+◌, ◌-◌, ◌≤◌, take}
 use Rattle.std.proofs.Math.Seq.{slice}
-use Rattle.replace.specs.Pass.{number_of, stringOf, sums}
+use Rattle.replace.specs.Pass.{numberOf, stringOf, sums}
 use Rattle.replace.proofs.additions.additions.Given as goal
 
 abbrev pub invariant-loop-i : goal.invariant-loop-i
@@ -9,7 +9,7 @@ invariant-loop-i l = record {
   within : l.i ≤ l.e;
   numbers-few : l.numbers ≤ l.i;
   strings-few : l.strings ≤ l.i;
-  numbers : l.numbers + sums number_of (slice l.i l.e l.t) ≡ sums number_of (take l.e l.t);
+  numbers : l.numbers + sums numberOf (slice l.i l.e l.t) ≡ sums numberOf (take l.e l.t);
   strings : l.strings + sums stringOf (slice l.i l.e l.t) ≡ sums stringOf (take l.e l.t);
 }
 

@@ -2,7 +2,7 @@
 use Rattle.std.proofs.Common.{arith}
 use Rattle.codegen.proofs.Laws.{then, same}
 use Rattle.exprs.proofs.Trees.{expr-most}
-use Rattle.stmts.proofs.Forms.{as_line}
+use Rattle.stmts.proofs.Forms.{as-line}
 use Rattle.stmts.proofs.own.line_number.Goals as goal
 
 pub numberify-requires : goal.numberify-requires
@@ -11,4 +11,4 @@ numberify-requires c = let p = c.requires.ready in let s = (c.codegen_from_expr-
 pub returns : goal.returns
 returns c = λ m e j h x.
     let s = (c.codegen_from_expr-e.ensures m e j h x).spent in
-    record { does = same (as_line _) (then _ (c.codegen_from_expr-e.ensures m e j h x).does c.numberify.ensures.does.does); spent = omega arith }
+    record { does = same (as-line _) (then _ (c.codegen_from_expr-e.ensures m e j h x).does c.numberify.ensures.does.does); spent = omega arith }

@@ -1,5 +1,6 @@
 -- By the kind of the node, one of four statements: its own section is that of the rules.
-use Rattle.std.proofs.Common.{ℕ, Bool, ◌+◌, ◌/◌, ◌%◌, ap, add-one, arith, get_or}
+use Rattle.nodes.specs.Words.{opIn}
+use Rattle.std.proofs.Common.{ℕ, Bool, ◌+◌, ap, add-one, arith, get_or}
 use Rattle.rules.specs.Bits.{isOne}
 use Rattle.rules.specs.Tree.{PowTo, ofBlock, statement, node, both, emptyTally}
 use Rattle.rules.specs.Parse.{assignops}
@@ -9,7 +10,7 @@ use Rattle.stmts.specs.Lists.{isEnd}
 use Rattle.stmts.specs.Parts.{ownCost, bare}
 use Rattle.stmts.proofs.Makes.{assign-most, jump-cost-most}
 use Rattle.stmts.proofs.Parts.{owns-goto, owns-step, owns-assign, owns-ite}
-use Rattle.stmts.proofs.Places.{goto-at, step-at, assign-at, ite-at, else-ite, ite-sum, goto-sum, assign-sum, step_sum, empty-same}
+use Rattle.stmts.proofs.Places.{goto-at, step-at, assign-at, ite-at, else-ite, ite-sum, goto-sum, assign-sum, step-sum, empty-same}
 use Rattle.stmts.proofs.Splits.{cut}
 use Rattle.stmts.proofs.sections.codegen_from_own.Goals as goal
 
@@ -42,7 +43,7 @@ pub codegen_from_step-requires : goal.codegen_from_step-requires
 codegen_from_step-requires c =
     let p = c.requires.ready.list in
     let b = step-at p.few p.held c.if-kind-eq-STEP.true in
-    let y = step_sum _ _ _ b.is in
+    let y = step-sum _ _ _ b.is in
     omega arith
 
 pub returns-then-kind-eq-STEP : goal.returns-then-kind-eq-STEP
@@ -74,7 +75,7 @@ returns-then-kind-eq-ASSIGN c = λ m x z h q.
     let r = c.codegen_from_set.ensures m _ _ h b.known b.value in
     let s = r.1 in
     let k = expr-most b.e in
-    let o = assign-most (get_or assignops (get_or c.args.nodes.now c.args.i 0 / 16 % 16) PowTo) in
+    let o = assign-most (get_or assignops (opIn (get_or c.args.nodes.now c.args.i 0)) PowTo) in
     rw b.is (record { does = owns-assign _ _ b.e r.0; cost = s.exact; spent = omega arith })
 
 pub overflow_add-first : goal.overflow_add-first

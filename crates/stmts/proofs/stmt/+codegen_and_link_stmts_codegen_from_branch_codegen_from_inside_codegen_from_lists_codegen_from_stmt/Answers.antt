@@ -1,16 +1,16 @@
 -- Each function hands what its tree's part needs down to the next, and the laws of lists put the parts together.
-use Rattle.std.proofs.Common.{◌≡◌, ℕ, ◌+◌, ◌/◌, ◌%◌, sym, ap, ◌∙◌, refl, add-one, arith, get_or}
+use Rattle.std.proofs.Common.{◌≡◌, ℕ, ◌+◌, sym, ap, ◌∙◌, refl, add-one, arith, get_or}
 use Rattle.rules.specs.Tree.{ofBlock, both, emptyTally}
 use Rattle.nodes.specs.Width.{width}
-use Rattle.nodes.specs.Words.{iteKind}
+use Rattle.nodes.specs.Words.{iteKind, widthIn}
 use Rattle.nodes.proofs.Blocks.{is-end, tag, kind-held}
 use Rattle.nodes.proofs.Width.{or-one}
 use Rattle.stmts.specs.Parts.{insideTally}
 use Rattle.stmts.proofs.Lists.{some-width, grew-both, branch-empty, branch-list, stored-empty}
-use Rattle.stmts.proofs.Parts.{one-parts, none_inside, ite-inside, inside-none, inside-ite, lists-one}
-use Rattle.stmts.proofs.Places.{not_end, ite-at, ite-sum}
-use Rattle.stmts.proofs.Splits.{parts, cut, moved, starts, one_only}
-use Rattle.stmts.proofs.Steps.{ready-first, list_on, list-end}
+use Rattle.stmts.proofs.Parts.{one-parts, none-inside, ite-inside, inside-none, inside-ite, lists-one}
+use Rattle.stmts.proofs.Places.{not-end, ite-at, ite-sum}
+use Rattle.stmts.proofs.Splits.{parts, cut, moved, starts, one-only}
+use Rattle.stmts.proofs.Steps.{ready-first, list-on, list-end}
 use Rattle.stmts.proofs.stmt.+codegen_and_link_stmts_codegen_from_branch_codegen_from_inside_codegen_from_lists_codegen_from_stmt.Goals as goal
 
 -- ---- a list
@@ -38,7 +38,7 @@ codegen_and_link_stmts-loop-left-preserved t c =
     let st = c.codegen_from_stmt-d in
     record {
       left_to = r.next ∙ i.left_to;
-      mid = list_on i.mid c.loop-left-test.true f.linked f.number f.next i.left_to r.linked r.number (omega (arith, st.auto)) st.ensures;
+      mid = list-on i.mid c.loop-left-test.true f.linked f.number f.next i.left_to r.linked r.number (omega (arith, st.auto)) st.ensures;
     }
 
 pub codegen_and_link_stmts-returns : goal.codegen_and_link_stmts-returns
@@ -67,7 +67,7 @@ codegen_from_branch-codegen_and_link_stmts-requires t c =
 pub codegen_from_branch-returns : goal.codegen_from_branch-returns
 codegen_from_branch-returns t c = λ m x z h q.
     let r = c.codegen_and_link_stmts.ensures m x z h q in
-    record { does = branch-list x (not_end q c.if-count-eq0.false) r.does; spent = r.spent; node-is = r.node-is }
+    record { does = branch-list x (not-end q c.if-count-eq0.false) r.does; spent = r.spent; node-is = r.node-is }
 
 -- ---- the lists of a statement
 
@@ -80,7 +80,7 @@ codegen_from_inside-bounds-nodes-i t c = let sp = cut c.requires.list (omega ari
 pub codegen_from_inside-returns-then-w-ne-ITE : goal.codegen_from_inside-returns-then-w-ne-ITE
 codegen_from_inside-returns-then-w-ne-ITE t c = λ m x z h q.
     let n : tag x + 8 ≡ iteKind → ⊥ = λ y. c.if-w-ne-ITE.true (kind-held (omega arith) q ∙ y) in
-    let k = none_inside x n in
+    let k = none-inside x n in
     record { does = inside-none x n; spent = omega arith }
 
 pub codegen_from_inside-overflow_add-number : goal.codegen_from_inside-overflow_add-number
@@ -125,7 +125,7 @@ codegen_from_inside-returns t c = λ m x z h q.
     rw it.is
     (record {
       does = inside-ite it.e it.yes it.no (add-one _) (ap (λ (k : ℕ). c.args.link.number.0 + 1 + k) it.width-then)
-          (ap (λ (k : ℕ). c.args.link.number.0 + 1 + get_or c.args.nodes.now c.args.i 0 / 34359738368 % 8192 + k) it.width-else) ls.yes ls.no ls.join;
+          (ap (λ (k : ℕ). c.args.link.number.0 + 1 + widthIn (get_or c.args.nodes.now c.args.i 0) + k) it.width-else) ls.yes ls.no ls.join;
       spent = ls.spent;
     })
 
@@ -170,20 +170,20 @@ codegen_from_lists-returns t c = λ m x y j z h q1 q2.
 pub codegen_from_stmt-codegen_from_own-d-requires : goal.codegen_from_stmt-codegen_from_own-d-requires
 codegen_from_stmt-codegen_from_own-d-requires t c =
     let p = c.requires.list in
-    let wd = some-width p.block (not_end p.held (λ z. omega arith)) in
+    let wd = some-width p.block (not-end p.held (λ z. omega arith)) in
     record { depth = _; ready = c.requires; placed = omega arith }
 
 pub codegen_from_stmt-codegen_from_inside-requires : goal.codegen_from_stmt-codegen_from_inside-requires
 codegen_from_stmt-codegen_from_inside-requires t c =
     let p = c.requires.list in
-    let op = rw (one_only p.held) at (one-parts p.block) in
+    let op = rw (one-only p.held) at (one-parts p.block) in
     let os = (c.codegen_from_own-d.ensures _ _ _ p.few p.held).spent in
     (omega arith, record { list = p; ample = omega arith })
 
 pub codegen_from_stmt-returns : goal.codegen_from_stmt-returns
 codegen_from_stmt-returns t c = λ m x z h q.
-    let o = one_only q in
+    let o = one-only q in
     let op = rw o at (one-parts x) in
     let ow = c.codegen_from_own-d.ensures m x z h q in
     let il = c.codegen_from_inside.ensures m x z h q in
-    record { does = lists-one x o (not_end q (λ y. omega arith)) ow.does il.does; spent = omega (arith, ow.spent, il.spent); node-is = refl; number_is = refl }
+    record { does = lists-one x o (not-end q (λ y. omega arith)) ow.does il.does; spent = omega (arith, ow.spent, il.spent); node-is = refl; number-is = refl }

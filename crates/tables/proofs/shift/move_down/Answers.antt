@@ -11,6 +11,6 @@ loop-i-preserved c =
     let k : a.from + l.i < length l.t = omega arith in
     record {
       within = omega arith;
-      same_length = simp length-set l.invariant.same_length;
-      moved = down-more a.t.now l.t a.from a.to l.i c.requires.0 k l.invariant.same_length l.invariant.moved;
+      same-length = simp length-set l.invariant.same-length;
+      moved = down-more a.t.now l.t a.from a.to l.i c.requires.0 k l.invariant.same-length l.invariant.moved;
     }

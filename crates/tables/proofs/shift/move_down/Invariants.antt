@@ -6,7 +6,7 @@ use Rattle.tables.proofs.shift.move_down.Given as goal
 abbrev pub invariant-loop-i : goal.invariant-loop-i
 invariant-loop-i l = record {
   within : l.i ≤ l.count;
-  same_length : length l.t ≡ length l.fn.t;
+  same-length : length l.t ≡ length l.fn.t;
   moved : Down l.fn.t l.t l.from l.to l.i;
 }
 

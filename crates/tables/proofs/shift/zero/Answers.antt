@@ -11,6 +11,6 @@ loop-i-preserved c =
     record {
       begun = omega arith;
       within = omega arith;
-      same_length = simp length-set l.invariant.same_length;
+      same-length = simp length-set l.invariant.same-length;
       rest = zero_more 0 l.t l.i c.args.to c.loop-i-test.true len ∙ l.invariant.rest;
     }

@@ -6,7 +6,7 @@ abbrev pub invariant-loop-i : goal.invariant-loop-i
 invariant-loop-i l = record {
   begun : l.from ≤ l.i;
   within : l.i ≤ l.to;
-  same_length : length l.t ≡ length l.fn.t;
+  same-length : length l.t ≡ length l.fn.t;
   rest : take l.i l.t ++ (replicate (l.to - l.i) 0 ++ drop l.to l.t) ≡ take l.from l.fn.t ++ (replicate (l.to - l.from) 0 ++ drop l.to l.fn.t);
 }
 

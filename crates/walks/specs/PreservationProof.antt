@@ -1,4 +1,4 @@
--- Demand 3 of every tree that is parsed.
+-- Preservation of every tree that is parsed.
 use Rattle.std.specs.Prelude.{◌≡◌, get_or}
 use Rattle.std.proofs.Math.Path.{ap}
 use Rattle.std.proofs.Common.{arith}
@@ -17,15 +17,15 @@ use Rattle.rules.specs.Clean.{cleanSections}
 use Rattle.rules.specs.Combine.{combineSections}
 use Rattle.rules.specs.Lowered.{Options, finished}
 use Rattle.rules.specs.Walk.{walk, enters, entered}
-use Rattle.rules.specs.Demand.{All, Demand, RegistersBelow, GotoBelow}
-use Rattle.walks.specs.Claim.{Demand3}
+use Rattle.rules.specs.Preservation.{All, Preserves, RegistersBelow, GotoBelow}
+use Rattle.walks.specs.Claim.{PreservesScript}
 use Rattle.bounds.specs.Good.{SectGood, NextGood, GoodWhole}
 use Rattle.bounds.specs.Room.{Room, roomOf}
 use Rattle.bounds.specs.Own.{Whole, whole-grows, annotate-made}
 use Rattle.bounds.specs.Quiet.{script-good, tree-good}
-use Rattle.walks.specs.FinishWalk.{demand3-replaced}
+use Rattle.walks.specs.FinishWalk.{preservation-replaced}
 use Rattle.laws.specs.Lists.{all-map}
-use Rattle.bounds.specs.Lengths.{length-spans}
+use Rattle.laws.specs.Texts.{length-spans}
 use Rattle.bounds.specs.Stay as Stay
 use Rattle.rules.specs.Bits.{ok}
 use Rattle.rules.specs.Parse.{parse}
@@ -66,8 +66,8 @@ module _ (o : Options) (t : Tree) where
     ss-pos : 0 < length ss
     ss-pos = omega (arith, (annotate-made t).long)
 
-    heart : Demand3 (length ss) (repScript pl σ ss).0 (combineSections (cleanSections (replaceSections pl σ (sectionsOf ss)).0)) os
-    heart = demand3-replaced pl σ ss ss-pos os
+    heart : PreservesScript (length ss) (repScript pl σ ss).0 (combineSections (cleanSections (replaceSections pl σ (sectionsOf ss)).0)) os
+    heart = preservation-replaced pl σ ss ss-pos os
 
     whole : All (Whole u) ss
     whole = all-map (Whole (roomOf g)) (Whole u) (whole-grows (roomOf g) u u-room) ss (annotate-made t).whole
@@ -75,9 +75,9 @@ module _ (o : Options) (t : Tree) where
     good : All (GoodWhole (RegistersBelow u) (λ r. r < u.numbers)) (repScript pl σ ss).0
     good = script-good u pl ss whole σ
 
-    of_tree : Demand o t os
+    of-tree : Preserves o t os
     unfolding u countsOf finished walk entered reading script
-    of_tree =
+    of-tree =
         record {
           same = heart.same;
           found = heart.found;
@@ -92,6 +92,5 @@ module _ (o : Options) (t : Tree) where
           noPair = heart.noPair;
         }
 
--- Demand 3.
-pub demand3 : (o : Options) (s : List ℕ) (t : Tree) → parse s ≡ ok t → (os : List ℕ) → Demand o t os
-demand3 o s t e os = of_tree o t (some-line s t e) os
+pub preservation : (o : Options) (s : List ℕ) (t : Tree) → parse s ≡ ok t → (os : List ℕ) → Preserves o t os
+preservation o s t e os = of-tree o t (some-line s t e) os

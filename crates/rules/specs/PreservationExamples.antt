@@ -1,4 +1,4 @@
--- What the claim of demand 3 tells apart: walks that differ, registers outside their tables, and a list cut behind its goto.
+-- What preservation tells apart: walks that differ, registers outside their tables, and a list cut behind its goto.
 use Rattle.std.specs.Prelude.{◌≡◌, refl, List, [], ◌∷◌, map, ℕ, suc, length}
 use Rattle.std.proofs.Common.{sym, ap, ◌∙◌, inl, inr, arith}
 use Rattle.rules.specs.Opcode as Op
@@ -7,7 +7,7 @@ use Rattle.rules.specs.Machine.{line}
 use Rattle.rules.specs.Tables.{Counts}
 use Rattle.rules.specs.Script.{nil, plain, goto, ite}
 use Rattle.rules.specs.Walk.{atJump, atGoto, ask, lost, End, more, over, Trace}
-use Rattle.rules.specs.Demand.{Walk, SameFirst, SameWalk, RegistersBelow, GotoBelow, prune}
+use Rattle.rules.specs.Preservation.{Walk, SameFirst, SameWalk, RegistersBelow, GotoBelow, prune}
 use Rattle.rules.specs.WalkExamples.{inc, threeLines}
 
 -- ---- walks
@@ -29,8 +29,8 @@ other-instruction s = go (s.firsts 1)
     go (inr (p, q)) = let h = p 0 in omega arith
 
 -- one more is met
-pub one_more : SameWalk (still (inc 0 ∷ [], more)) (still ([], more)) → ⊥
-one_more s = go (s.firsts 1)
+pub one-more : SameWalk (still (inc 0 ∷ [], more)) (still ([], more)) → ⊥
+one-more s = go (s.firsts 1)
   where
     go : SameFirst (still (inc 0 ∷ [], more)) (still ([], more)) 1 → ⊥
     go (inl (l, p, q)) = let e : length l ≡ 0 = sym (ap length q.2) in let d = q.1 in omega arith

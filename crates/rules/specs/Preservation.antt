@@ -1,4 +1,4 @@
--- Demand 3, as a statement: walking the finished machine and reading the tree, under one list of outcomes.
+-- Semantic preservation, as a statement: walking the finished machine and reading the tree, under one list of outcomes.
 use Rattle.std.specs.Prelude.{◌≡◌, ◌↔◌, ◌⊎◌, List, [], ◌∷◌, map, ℕ, ◌<◌, length, take, get_or}
 use Rattle.std.proofs.Math.Option.{Option, none, some}
 use Rattle.rules.specs.Tree.{Tree}
@@ -82,7 +82,7 @@ prune (ite o c t e s) = ite o c (prune t) (prune e) (prune s)
 -- ---- the claim
 
 -- of a tree, the options that it is finished by, and a list of outcomes
-pub record Demand (o : Options) (t : Tree) (os : List ℕ) : Type 0 where
+pub record Preserves (o : Options) (t : Tree) (os : List ℕ) : Type 0 where
   -- for every n, both meet the same first n instructions or both meet fewer; where the list runs out, both stop at the same question
   pub same : SameWalk (walk (finished o t) os) (reading t os)
   -- the machine comes to no section that is absent or unfixed,
