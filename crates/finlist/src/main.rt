@@ -7,7 +7,7 @@
 use std::io;
 use std::io::{Read, Write};
 
-const ROOM: u64 = printed::MOST_BYTES as u64 + 1;
+const ROOM: u64 = printed::FINLIST_BYTES as u64 + 1;
 
 fn space() -> [u8; printed::MOST_PRINTED] {
     [0u8; printed::MOST_PRINTED]

@@ -14,7 +14,7 @@ use params::refusal::TOO_LONG;
 use tables::answer::Answer;
 
 // The bytes of a file that is read at most.
-pub const MOST_BYTES: usize = 8192;
+pub const FINLIST_BYTES: usize = 8192;
 
 // What is lent: words of sections, instructions and numbers, and of the others as many as any file counts.
 const SECTIONS: usize = 2048;
@@ -47,7 +47,7 @@ pub const MOST_PRINTED: usize = 107
 pub fn finlist(input: &[u8], out: &mut [u8; MOST_PRINTED]) -> usize
     ensures { Prints out.old out.new result (Listing.finlist input.now) }
 {
-    if input.len() > MOST_BYTES {
+    if input.len() > FINLIST_BYTES {
         return row_r(out, 0, TOO_LONG);
     }
     let options = CodegenOptions {

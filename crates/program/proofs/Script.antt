@@ -19,7 +19,7 @@ use Rattle.bounds.specs.Lengths.{length-low, length-tailOf, heads-length}
 use Rattle.nodes.specs.Holds.{HoldsB}
 use Rattle.nodes.specs.Width.{width}
 use Rattle.nodes.proofs.Table.{grows-b}
-use Rattle.tree.specs.Files.{lineWord, HoldsL, no-line, a-line, widths}
+use Rattle.tree.specs.Files.{lineWord, HoldsL, no-line, a-line, widths, countIn, firstIn}
 use Rattle.words.specs.declared.instr.Section.{Section}
 use Rattle.codegen.specs.declared.state.Counters.{Counters}
 use Rattle.codegen.specs.Does.{Lent}
@@ -74,7 +74,7 @@ pub record LineHeld (t ls s : List ℕ) (m k i L : ℕ) (bs : List Block) (z : �
   pub others : List Block
   pub last : ℕ
   pub is : bs ≡ (block ∷ others)
-  pub here : HoldsB t s m (get_or ls k 0 % 64) (get_or ls k 0 / 64) block last
+  pub here : HoldsB t s m (countIn (get_or ls k 0)) (firstIn (get_or ls k 0)) block last
   pub behind : HoldsL t ls s m (k + 1) last others L z
   pub ends : last ≤ z
   pub more : k < L
@@ -87,8 +87,8 @@ pub line-held : {t ls s : List ℕ} {m k i L z : ℕ} {bs : List Block} → (k �
 unfolding lineWord
 line-held h (no-line p q) = absurd (omega arith)
 line-held {ls = ls} {k = k} {i = i} h (a-line n f w b e l) =
-    let p : n ≡ get_or ls k 0 % 64 = omega (arith, w) in
-    let q : i ≡ get_or ls k 0 / 64 = omega (arith, w) in
+    let p : n ≡ countIn (get_or ls k 0) = omega (arith, w) in
+    let q : i ≡ firstIn (get_or ls k 0) = omega (arith, w) in
     let y = held-at p q b in
     record { block = _; others = _; last = _; is = refl; here = y; behind = rw (← e) l; ends = lines-grow l; more = omega (arith, lines-count l); sum = lines-sum _ _ _ refl }
 
@@ -196,7 +196,7 @@ lines-more {m} {L} {k} {k1} x bs cs {n} {n1} {n2} {head} {h1} {h2} {c} {d} {c1} 
 -- ---- line by line: the sum of their costs
 
 pub costs_on : {t ls : List ℕ} {L k sum cost : ℕ} → CostsMid t ls L k sum → k < L
-    → ((s : List ℕ) (m : ℕ) (x : Block) (z : ℕ) → length s ≤ mostBytes → m ≤ mostNames → HoldsB t s m (get_or ls k 0 % 64) (get_or ls k 0 / 64) x z → cost ≡ ownCost x)
+    → ((s : List ℕ) (m : ℕ) (x : Block) (z : ℕ) → length s ≤ mostBytes → m ≤ mostNames → HoldsB t s m (countIn (get_or ls k 0)) (firstIn (get_or ls k 0)) x z → cost ≡ ownCost x)
     → CostsMid t ls L (k + 1) (sum + cost)
 costs_on c h f =
     record {
@@ -217,7 +217,7 @@ costs_end {sum = sum} c e a b h =
 
 module _ {s t ls : List ℕ} {L n0 head0 : ℕ} {c0 : Counters} {t0 : Lent} {se0 : List ℕ} {k n head : ℕ} {c : Counters} {t1 : Lent} {se : List ℕ} (mid : LinesMid s t ls L n0 head0 c0 t0 se0 k n head c t1 se) where
   pub lines-on : {d c1 : Counters} {t2 : Lent} {se2 : List ℕ} {h1 n1 : ℕ} (nl : Section) → k < L → nl.0 ≡ nextLine L k → d ≡ aimedAt c nl → SameLengths t1 t2 se se2
-      → ((m : ℕ) (x : Block) (z : ℕ) → m ≤ mostNames → HoldsB t s m (get_or ls k 0 % 64) (get_or ls k 0 / 64) x z → LineDone m x k n head d t1 t2 se se2 h1 c1 n1)
+      → ((m : ℕ) (x : Block) (z : ℕ) → m ≤ mostNames → HoldsB t s m (countIn (get_or ls k 0)) (firstIn (get_or ls k 0)) x z → LineDone m x k n head d t1 t2 se se2 h1 c1 n1)
       → LinesMid s t ls L n0 head0 c0 t0 se0 (k + 1) n1 h1 c1 t2 se2
   lines-on nl h v dd same f =
       let p = mid.ready in

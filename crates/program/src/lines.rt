@@ -7,7 +7,7 @@ ghost use Rattle.rules.specs.Constants.{mostBytes, mostNames, mostLines};
 ghost use Rattle.rules.specs.Tree.{Block};
 ghost use Rattle.rules.specs.Assemble.{nextLine};
 ghost use Rattle.nodes.specs.Holds.{HoldsB};
-ghost use Rattle.tree.specs.Files.{HoldsL};
+ghost use Rattle.tree.specs.Files.{HoldsL, countIn, firstIn};
 ghost use Rattle.stmts.specs.Parts.{ownCost};
 ghost use Rattle.codegen.specs.Does.{lent};
 ghost use Rattle.line.specs.Costs.{ListAt};
@@ -22,8 +22,8 @@ use words::instr::Section;
 
 // How many instructions the first statement of a line emits itself; an empty line has none.
 fn head_cost(nodes: &[u64], w: u64) -> usize
-    requires { ListAt nodes.now (w / 64) (w % 64) }
-    ensures { (s : List ℕ) (m : ℕ) (x : Block) (z : ℕ) → length s ≤ mostBytes → m ≤ mostNames → HoldsB nodes.now s m (w % 64) (w / 64) x z → result ≡ ownCost x }
+    requires { ListAt nodes.now (firstIn w) (countIn w) }
+    ensures { (s : List ℕ) (m : ℕ) (x : Block) (z : ℕ) → length s ≤ mostBytes → m ≤ mostNames → HoldsB nodes.now s m (countIn w) (firstIn w) x z → result ≡ ownCost x }
 {
     if w % LINE_COUNTS == 0 {
         return 0;

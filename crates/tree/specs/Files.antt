@@ -22,6 +22,12 @@ use Rattle.tree.specs.declared.SizeAnswer.TheVariants.{Sized, Refused as No}
 unfoldable pub lineWord : ℕ → ℕ → ℕ
 lineWord n i = n + 2 ^ listBits * i
 
+abbrev pub countIn : ℕ → ℕ
+countIn w = w % 2 ^ listBits
+
+abbrev pub firstIn : ℕ → ℕ
+firstIn w = w / 2 ^ listBits
+
 -- the tables t and ls hold the lines k to k', from node i to node j
 pub data HoldsL (t ls s : List ℕ) (m : ℕ) : ℕ → ℕ → List Block → ℕ → ℕ → Type 0 where
   no-line : {k i k' j : ℕ} → k ≡ k' → i ≡ j → HoldsL t ls s m k i [] k' j
