@@ -14,7 +14,7 @@ use Rattle.rules.specs.Word.{insWord, wordIns, insSpare, runWord, wordRun, runSp
 use Rattle.rules.specs.Tables.{Tables, Counts, allb, insFits, fieldFits, successFits, startFits, runsFit, successOf, readSections, runWords, allCode, runOf}
 use Rattle.rules.specs.Preservation.{All}
 use Rattle.laws.specs.Words.{InsSmall, ins-small, ins-again, wordRun-small}
-use Rattle.laws.specs.Lists.{both}
+use Rattle.laws.specs.Lists.{both, take-below}
 use Rattle.laws.specs.SectionWord.{next-small, word-again}
 use Rattle.laws.specs.Sections.{words-nil, words-cons, code-nil, code-cons}
 use Rattle.tables.specs.Rules.{sectionFits}
@@ -28,12 +28,6 @@ use Rattle.combine.proofs.Counted.{one-code}
 -- each word of a list has 64 bits
 abbrev pub Wide : List ℕ → Type 0
 Wide ws = (i : ℕ) → get_or ws i 0 < 2 ^ 64
-
-wide-take : (n : ℕ) (t : List ℕ) → Wide t → Wide (take n t)
-wide-take zero t h i = omega arith
-wide-take (suc n) [] h i = omega arith
-wide-take (suc n) (x ∷ t) h zero = h 0
-wide-take (suc n) (x ∷ t) h (suc i) = wide-take n t (λ j. h (suc j)) i
 
 -- ---- instructions
 
@@ -133,8 +127,8 @@ module _ (t : Tables) (u : Counts) (s : Keeps t u) (h : Wide t.sections) (g : Wi
   unfolding held
   fits-sound =
       record {
-        sections = sym (words-again u ws is 0 0 (wide-take u.sections t.sections h) s.runs (omega (arith, covered)));
-        instrs = sym (ap (map insWord) (code-all ws is covered) ∙ code-again u is (wide-take u.instrs t.instrs g) s.instrs);
+        sections = sym (words-again u ws is 0 0 (take-below (2 ^ 64) u.sections t.sections (omega arith) h) s.runs (omega (arith, covered)));
+        instrs = sym (ap (map insWord) (code-all ws is covered) ∙ code-again u is (take-below (2 ^ 64) u.instrs t.instrs (omega arith) g) s.instrs);
         count = read-length ws is ∙ length-take-le u.sections t.sections s.counts.sections;
         code = ap length (code-all ws is covered) ∙ (length-map is wordIns ∙ long);
         few = s.counts.sections-few;

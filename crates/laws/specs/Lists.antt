@@ -1,5 +1,5 @@
 -- Laws of lists and of tests: what holds of all elements, of a list and one behind it, by number. Assumes nothing.
-use Rattle.std.specs.Prelude.{◌≡◌, refl, Bool, true, false, ◌&&◌, List, [], ◌∷◌, ◌++◌, ℕ, zero, suc, ◌<◌, length, get_or, set}
+use Rattle.std.specs.Prelude.{◌≡◌, refl, Bool, true, false, ◌&&◌, List, [], ◌∷◌, ◌++◌, ℕ, zero, suc, ◌<◌, length, take, get_or, set}
 use Rattle.std.proofs.Common.{sym, ◌∙◌, le_of_suc-le-suc, not-suc-le-zero, arith}
 use Rattle.std.proofs.lemmas.Bool.{false≢true}
 use Rattle.std.proofs.Math.ListN.{get_elem?}
@@ -65,3 +65,10 @@ module _ {A : Type 0} where
   at-past [] t d e = refl
   at-past (x ∷ l) zero d e = let z : ◌≡◌ {A = ℕ} 0 1 = cc in absurd (omega arith)
   at-past (x ∷ l) (suc t) d e = at-past l t d e
+
+-- numbers below a bound, and the first of them; what is past the end is read as 0
+pub take-below : (b n : ℕ) (t : List ℕ) → 0 < b → ((i : ℕ) → get_or t i 0 < b) → (i : ℕ) → get_or (take n t) i 0 < b
+take-below b zero t p h i = p
+take-below b (suc n) [] p h i = p
+take-below b (suc n) (x ∷ t) p h zero = h 0
+take-below b (suc n) (x ∷ t) p h (suc i) = take-below b n t p (λ j. h (suc j)) i

@@ -16,6 +16,7 @@ use Rattle.rules.specs.Word.{Span, insWord, wordSpan, spanWord, spanSpare}
 use Rattle.rules.specs.Machine.{SectionCode, Machine}
 use Rattle.rules.specs.Tables.{Tables, Counts, allb, spanFits, fits, decode, runWords, allCode, countsOf}
 use Rattle.rules.specs.Operations.{put, write, change}
+use Rattle.laws.specs.Lists.{take-below}
 use Rattle.laws.specs.Words.{span-again}
 use Rattle.tables.specs.Runs.{held}
 use Rattle.std.proofs.lemmas.Bool.{false≢true}
@@ -102,12 +103,6 @@ unfolding put
 put-same n ws t t' h e = let z : max n (length ws) ≡ n = max-eq_left h in rw (z, e)
 
 -- strings that keep the rules are written as they were
-taken-small : (n : ℕ) (t : List ℕ) → ((i : ℕ) → get_or t i 0 < 2 ^ 32) → (i : ℕ) → get_or (take n t) i 0 < 2 ^ 32
-taken-small zero t h i = omega arith
-taken-small (suc n) [] h i = omega arith
-taken-small (suc n) (x ∷ t) h zero = h 0
-taken-small (suc n) (x ∷ t) h (suc i) = taken-small n t (λ j. h (suc j)) i
-
 spare-zero : (u : Counts) (w : ℕ) → spanFits u w ≡ true → spanSpare w ≡ 0
 unfolding spanFits
 spare-zero u w e = go (eqb (spanSpare w) 0) refl e
@@ -125,4 +120,4 @@ spans-back u (w ∷ ws) b e = by (spanFits u w) refl (λ d. spans-back u ws (λ 
     by false d ih = absurd (false≢true (sym (all-cons (spanFits u) w ws false d) ∙ e))
 
 pub strings-back : (t : Tables) (u : Counts) → Sound t u → ((i : ℕ) → get_or t.strings i 0 < 2 ^ 32) → map spanWord (map wordSpan (take u.strings t.strings)) ≡ take u.strings t.strings
-strings-back t u s h = spans-back u (take u.strings t.strings) (taken-small u.strings t.strings h) s.spans
+strings-back t u s h = spans-back u (take u.strings t.strings) (take-below (2 ^ 32) u.strings t.strings (omega arith) h) s.spans
