@@ -1,5 +1,5 @@
-//! A tree as a script: each statement's own instructions, after replacement. Written from "Lowering" of
-//! docs/FORMAT.md, and from codegen.rs where that leaves something open. There are no sections: a jump's
+//! A tree as a script: each statement's own instructions, after replacement. Written from the written rules of
+//! lowering, and from codegen.rs where that leaves something open. There are no sections: a jump's
 //! target stands at 0, and nothing comes out of a built machine.
 
 use crate::machine::{op, Ins};

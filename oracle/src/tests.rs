@@ -1,4 +1,4 @@
-//! Files and machines worked out by hand, and where the rules are stricter than yogi. Run by `cargo test --release`.
+//! The worked examples that came with the rules, and where the rules are stricter than yogi. Run by `cargo test --release`.
 
 use crate::bits::unhex;
 use crate::finlist::finlist;

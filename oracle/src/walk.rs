@@ -1,4 +1,4 @@
-//! Walk and reading, written from docs/FORMAT.md: a finished machine is walked, a tree is read in
+//! Walk and reading, written from the written rules: a finished machine is walked, a tree is read in
 //! order. Both use up one list of outcomes.
 
 use crate::lowering::{jump_if, Node, Script, What};
