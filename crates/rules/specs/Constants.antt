@@ -86,6 +86,17 @@ numberBits = 64
 abbrev pub byteBits : ℕ
 byteBits = 8
 
+-- ---- ASCII's upper case letters, the first and the last, and how far behind them the lower case ones stand
+
+abbrev pub upperA : ℕ
+upperA = 65
+
+abbrev pub upperZ : ℕ
+upperZ = 90
+
+abbrev pub caseDistance : ℕ
+caseDistance = 32
+
 -- ---- the words of a machine: the widths of their fields, the first uppermost, the last the zero bits
 
 -- opcode, three fields

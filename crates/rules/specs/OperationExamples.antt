@@ -2,7 +2,7 @@
 use Rattle.std.specs.Prelude.{◌≡◌, refl, List, [], ◌∷◌, ◌++◌, map, ℕ, suc, ℤ, pos, replicate}
 use Rattle.rules.specs.Constants.{mostBytes, mostNodes, mostCount}
 use Rattle.rules.specs.Bits.{Res, refused, ok}
-use Rattle.rules.specs.Parse.{At, expr, stmt}
+use Rattle.rules.specs.Parse.{At, expr, stmt, toLowercase}
 use Rattle.rules.specs.Lowered.{defaults}
 use Rattle.rules.specs.Tables.{Tables, Counts}
 use Rattle.rules.specs.Operations.{size, lower, finish, replace, clean, combine, text, textSpot}
@@ -50,6 +50,33 @@ node-order = (refl, refl, refl, refl)
 pub deep : size (bytes 67 0x01010004204081020408102040810204081020408102040810204081020408102040810204081020408102040810204081020408102040810204200000000000000000) ≡ ok (record { lines = 1; names = 0; statements = 1; nodes = 64; strings = 0; characters = 0 })
 unfolding size bytes
 deep = refl
+
+-- ---- which names are the same
+
+-- the ends of A to Z and of a to z, and what stands next to them
+pub in-lower-case : map toLowercase (64 ∷ 65 ∷ 90 ∷ 91 ∷ 96 ∷ 97 ∷ 122 ∷ 123 ∷ []) ≡ 64 ∷ 97 ∷ 122 ∷ 91 ∷ 96 ∷ 97 ∷ 122 ∷ 123 ∷ []
+unfolding toLowercase
+in-lower-case = refl
+
+-- names and an empty line: a A; z Z; Ward wARD; :aZ :Az; x :x X
+unfoldable pub sameNames : List (List ℕ)
+unfolding bytes
+sameNames =
+    bytes 8 0x0101020184041000 ∷ bytes 8 0x01010201E805A000 ∷ bytes 13 0x010102075F0F2C80FBC1A51000
+    ∷ bytes 9 0x0101028386D4183E80 ∷ bytes 9 0x01010301E207801600 ∷ []
+
+-- a :A; @ `; [ {; A Ab
+unfoldable pub otherNames : List (List ℕ)
+unfolding bytes
+otherNames = bytes 8 0x0101020186041000 ∷ bytes 8 0x0101020100060000 ∷ bytes 8 0x010102016C07B000 ∷ bytes 9 0x01010201040C1C4000 ∷ []
+
+pub same-refused : map size sameNames ≡ replicate 5 (refused 6)
+unfolding size sameNames
+same-refused = refl
+
+pub others-accepted : map size otherNames ≡ replicate 4 (ok (record { lines = 1; names = 2; statements = 0; nodes = 0; strings = 0; characters = 0 }))
+unfolding size otherNames
+others-accepted = refl
 
 -- ---- lower and finish of :x="ab", with one word more than each estimate
 

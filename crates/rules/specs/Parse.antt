@@ -1,9 +1,9 @@
 -- The tree form: from bytes to a tree, or the refusal that comes first.
-use Rattle.std.specs.Prelude.{Bool, true, false, not, ◌&&◌, List, [], ◌∷◌, ◌++◌, ℕ, zero, suc, ◌*◌, ◌-◌, ◌^◌, leb, ltb, eqb, ℤ, pos, negsuc, length, get_or}
+use Rattle.std.specs.Prelude.{Bool, true, false, not, ◌&&◌, List, [], ◌∷◌, ◌++◌, ℕ, zero, suc, ◌+◌, ◌*◌, ◌-◌, ◌^◌, leb, ltb, eqb, ℤ, pos, negsuc, length, get_or}
 use Rattle.std.specs.Bool.{beq}
 use Rattle.std.proofs.Math.Option.{none, some}
 use Rattle.std.proofs.Math.ListN.{get_elem?}
-use Rattle.rules.specs.Constants.{mostBytes, mostDepth, mostNodes, form, headBits, nameBits, nameLengthBits, charBits, stringLengthBits, flagBits, listBits, stmtKindBits, exprKindBits, operatorBits, assignBits, numberBits, byteBits}
+use Rattle.rules.specs.Constants.{mostBytes, mostDepth, mostNodes, form, headBits, nameBits, nameLengthBits, charBits, stringLengthBits, flagBits, listBits, stmtKindBits, exprKindBits, operatorBits, assignBits, numberBits, byteBits, upperA, upperZ, caseDistance}
 use Rattle.rules.specs.Refusal as Refusal
 use Rattle.rules.specs.Bits.{Res, refused, ok, field, isOne}
 use Rattle.rules.specs.Tree.{Name, Tree, Binop, Unop, Assignop, Expr, Block}
@@ -200,13 +200,18 @@ stmt n (suc d) = do
 
 -- ---- the file
 
+-- A to Z are read as a to z, any other character as itself
+unfoldable pub toLowercase : ℕ → ℕ
+toLowercase c = elim (leb upperA c && leb c upperZ) [ true ↦ c + caseDistance | false ↦ c ]
+
 unfoldable pub sameChars : List ℕ → List ℕ → Bool
+unfolding toLowercase
 sameChars [] [] = true
 sameChars [] (b ∷ t) = false
 sameChars (a ∷ s) [] = false
-sameChars (a ∷ s) (b ∷ t) = eqb a b && sameChars s t
+sameChars (a ∷ s) (b ∷ t) = eqb (toLowercase a) (toLowercase b) && sameChars s t
 
--- names are the same if flag and characters are
+-- names are the same if their flags are, and their characters in lower case
 unfoldable pub sameName : Name → Name → Bool
 unfolding sameChars
 sameName x y = beq x.isGlobal y.isGlobal && sameChars x.chars y.chars
