@@ -11,7 +11,7 @@ use Rattle.rules.specs.Constants.{flagBits, nameLengthBits, charBits}
 use Rattle.rules.specs.Refusal.{equalNames}
 use Rattle.rules.specs.Bits.{Res, refused, ok, spelled, isOne}
 use Rattle.rules.specs.Tree.{Name}
-use Rattle.rules.specs.Parse.{At, name, names, known, sameName, sameChars, bits}
+use Rattle.rules.specs.Parse.{At, name, names, known, sameName, toLowercase, sameChars, bits}
 use Rattle.bits.specs.Reads.{Gives, Fine, Took, Skips, at, charsAt}
 use Rattle.bits.specs.declared.Step.{Step}
 use Rattle.bits.specs.declared.Step.TheVariants.{Next, Refused}
@@ -48,7 +48,7 @@ unfolding charsAt sameChars
 lengths-differ s zero zero p q h = absurd (h refl)
 lengths-differ s zero (suc n) p q h = refl
 lengths-differ s (suc m) zero p q h = refl
-lengths-differ s (suc m) (suc n) p q h = rw (lengths-differ s m n (p + charBits) (q + charBits) (λ e. h (ap suc e))) (and-false (eqb (spelled s charBits p) (spelled s charBits q)))
+lengths-differ s (suc m) (suc n) p q h = rw (lengths-differ s m n (p + charBits) (q + charBits) (λ e. h (ap suc e))) (and-false (eqb (toLowercase (spelled s charBits p)) (toLowercase (spelled s charBits q))))
 
 pub same-length : (s : List ℕ) (p q : ℕ) → spelled s headerBits p ≡ spelled s headerBits q → spelled s nameLengthBits (p + flagBits) ≡ spelled s nameLengthBits (q + flagBits)
 same-length s p q e = omega (arith, head s p, head s q, spelled-lt s nameLengthBits (p + flagBits), spelled-lt s nameLengthBits (q + flagBits))
@@ -73,16 +73,16 @@ differ-first s p q h = by (eqb (spelled s nameLengthBits (p + flagBits)) (spelle
         let l : (spelled s nameLengthBits (p + flagBits) ≡ spelled s nameLengthBits (q + flagBits) → ⊥) = eqb-false _ _ e in
         rw (lengths-differ s (suc (spelled s nameLengthBits (p + flagBits))) (suc (spelled s nameLengthBits (q + flagBits))) (p + headerBits) (q + headerBits) (λ g. l (omega arith))) (sym (and-false (beq (isOne (spelled s flagBits p)) (isOne (spelled s flagBits q)))))
 
--- characters compared one by one
-pub chars-more : (s : List ℕ) (n a b : ℕ) → 0 < n → spelled s charBits a ≡ spelled s charBits b → sameChars (charsAt s (n - 1) (a + charBits)) (charsAt s (n - 1) (b + charBits)) ≡ sameChars (charsAt s n a) (charsAt s n b)
+-- characters compared one by one, in lower case
+pub chars-more : (s : List ℕ) (n a b : ℕ) → 0 < n → toLowercase (spelled s charBits a) ≡ toLowercase (spelled s charBits b) → sameChars (charsAt s (n - 1) (a + charBits)) (charsAt s (n - 1) (b + charBits)) ≡ sameChars (charsAt s n a) (charsAt s n b)
 unfolding charsAt sameChars
 chars-more s zero a b h e = absurd (omega arith)
-chars-more s (suc n) a b h e = rw (sub-one, eq-eqb (spelled s charBits a) (spelled s charBits b) e)
+chars-more s (suc n) a b h e = rw (sub-one, eq-eqb (toLowercase (spelled s charBits a)) (toLowercase (spelled s charBits b)) e)
 
-pub chars-differ : (s : List ℕ) (n a b : ℕ) → 0 < n → (spelled s charBits a ≡ spelled s charBits b → ⊥) → false ≡ sameChars (charsAt s n a) (charsAt s n b)
+pub chars-differ : (s : List ℕ) (n a b : ℕ) → 0 < n → (toLowercase (spelled s charBits a) ≡ toLowercase (spelled s charBits b) → ⊥) → false ≡ sameChars (charsAt s n a) (charsAt s n b)
 unfolding charsAt sameChars
 chars-differ s zero a b h e = absurd (omega arith)
-chars-differ s (suc n) a b h e = rw (ne_eqb (spelled s charBits a) (spelled s charBits b) e)
+chars-differ s (suc n) a b h e = rw (ne_eqb (toLowercase (spelled s charBits a)) (toLowercase (spelled s charBits b)) e)
 
 pub chars-end : (s : List ℕ) (n a b : ℕ) → n ≤ 0 → true ≡ sameChars (charsAt s n a) (charsAt s n b)
 unfolding charsAt sameChars

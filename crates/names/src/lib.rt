@@ -5,7 +5,7 @@
 
 ghost use Rattle.std.specs.Prelude.{◌≡◌, ◌≤◌, ◌<◌, ◌*◌, ◌+◌, length};
 ghost use Rattle.rules.specs.Constants.{mostBytes, byteBits};
-ghost use Rattle.rules.specs.Parse.{sameName, known as knownS};
+ghost use Rattle.rules.specs.Parse.{toLowercase, sameName, known as knownS};
 ghost use Rattle.bits.specs.Reads.{Fine};
 ghost use Rattle.names.specs.Names.{headerBits, nameAt, nextName, namesAt, endAt, NamesOne, NamesAll};
 
@@ -15,6 +15,13 @@ use params::refusal::EQUAL_NAMES;
 
 // A name's flag and length together.
 const HEADER_BITS: usize = FLAG_BITS + NAME_LENGTH_BITS;
+
+// ASCII's upper case letters, the first and the last, and how far behind them the lower case ones stand.
+const UPPER_A: u64 = 65;
+
+const UPPER_Z: u64 = 90;
+
+const CASE_DISTANCE: u64 = 32;
 
 // Where the name at q ends, and the next one begins.
 pub fn after(s: &[u8], q: usize) -> usize
@@ -34,7 +41,19 @@ pub fn is_global(s: &[u8], q: usize) -> bool
     bits::peek(s, q, FLAG_BITS) == 1
 }
 
-// Are the names at p and q the same? Flag and length first, then characters.
+// A to Z are read as a to z, any other character as itself.
+#[tactic(auto, unfolding(rules::specs::Parse::toLowercase))]
+fn to_lowercase(c: u64) -> u64
+    ensures { result ≡ toLowercase c }
+{
+    if UPPER_A <= c && c <= UPPER_Z {
+        c + CASE_DISTANCE
+    } else {
+        c
+    }
+}
+
+// Are the names at p and q the same? Flag and length first, then characters in lower case.
 #[tactic(auto, unfolding(crate::specs::Names::nextName, crate::specs::Names::charsOf))]
 fn same(s: &[u8], p: usize, q: usize) -> bool
     requires { (length s.now ≤ mostBytes) × ((nextName s.now p ≤ byteBits * length s.now) × (nextName s.now q ≤ byteBits * length s.now)) }
@@ -47,7 +66,7 @@ fn same(s: &[u8], p: usize, q: usize) -> bool
     let mut a = p + HEADER_BITS;
     let mut b = q + HEADER_BITS;
     while left > 0 {
-        if bits::peek(s, a, CHAR_BITS) != bits::peek(s, b, CHAR_BITS) {
+        if to_lowercase(bits::peek(s, a, CHAR_BITS)) != to_lowercase(bits::peek(s, b, CHAR_BITS)) {
             return false;
         }
         a += CHAR_BITS;

@@ -1,7 +1,8 @@
 -- Flag and length decide together, then each character.
 use Rattle.std.proofs.Common.{◌≡◌, arith}
-use mathlib.Core.Path.{sym, ◌∙◌}
+use mathlib.Core.Path.{sym, ◌∙◌, ap}
 use Rattle.rules.specs.Bits.{spelled}
+use Rattle.rules.specs.Parse.{toLowercase}
 use Rattle.names.specs.Names.{headerBits, nextName, charsOf}
 use Rattle.laws.specs.Texts.{spelled-lt}
 use Rattle.names.proofs.Laws.{same-length, same-first, differ-first, chars-more, chars-differ, chars-end}
@@ -20,14 +21,18 @@ loop-left-init c =
     let f = same-length c.args.s.now c.args.p c.args.q e in
     (rw c.peek-left.ensures (same-first c.args.s.now c.args.p c.args.q e), (omega arith, omega arith))
 
-pub returns-then-peek-2 : goal.returns-then-peek-2
-returns-then-peek-2 c =
-    chars-differ _ _ _ _ c.loop-left-test.true (λ e. c.if-peek-2.true (c.peek-in-loop-left.ensures ∙ e ∙ sym c.peek-in-loop-left-2.ensures)) ∙ c.loop-left.invariant.0
+pub returns-then-to_lowercase : goal.returns-then-to_lowercase
+returns-then-to_lowercase c =
+    let a = c.to_lowercase.ensures ∙ ap toLowercase c.peek-in-loop-left.ensures in
+    let b = c.to_lowercase-in-loop-left.ensures ∙ ap toLowercase c.peek-in-loop-left-2.ensures in
+    chars-differ _ _ _ _ c.loop-left-test.true (λ e. c.if-to_lowercase.true (a ∙ e ∙ sym b)) ∙ c.loop-left.invariant.0
 
 pub loop-left-preserved : goal.loop-left-preserved
 loop-left-preserved c =
     let l = c.loop-left in
-    (chars-more _ l.left l.a l.b c.loop-left-test.true (sym c.peek-in-loop-left.ensures ∙ c.if-peek-2.false ∙ c.peek-in-loop-left-2.ensures) ∙ l.invariant.0, (omega arith, omega arith))
+    let a = c.to_lowercase.ensures ∙ ap toLowercase c.peek-in-loop-left.ensures in
+    let b = c.to_lowercase-in-loop-left.ensures ∙ ap toLowercase c.peek-in-loop-left-2.ensures in
+    (chars-more _ l.left l.a l.b c.loop-left-test.true (sym a ∙ c.if-to_lowercase.false ∙ b) ∙ l.invariant.0, (omega arith, omega arith))
 
 pub returns : goal.returns
 returns c = chars-end _ _ _ _ c.loop-left-test.false ∙ c.loop-left.invariant.0
