@@ -110,7 +110,11 @@ fn parser(source: &Source) -> String {
     for (from, to) in types {
         out += source.take(from, to);
     }
-    out
+    out += source.take(
+        "impl Ident {",
+        "    fn parse<'a>(mut pairs: impl Iterator<Item = Pair<'a, Rule>>) -> Ident {",
+    );
+    out + "}\n"
 }
 
 /// All but the running of a machine and its printing.

@@ -102,6 +102,7 @@ repeat() {
 one_line="8:1 8:1"
 x="1:0 6:0 7:120"
 global_x="1:1 6:0 7:120"
+capital_x="1:0 6:0 7:88"
 a="1:0 6:0 7:97"
 set_0="2:3 8:0 3:0"
 set_1="2:3 8:1 3:0"
@@ -128,6 +129,10 @@ named 3 "an empty file"
 named 4 "expression of kind 6" $one_line 8:1 $x 6:1 $set_0 3:6
 named 5 "a name that is not there" $one_line 8:1 $x 6:1 $set_1 $one
 named 6 "two equal names" $one_line 8:2 $x $x 6:0
+named 6 "x and X" $one_line 8:2 $x $capital_x 6:0
+named 6 "Ward and wARD" $one_line 8:2 1:1 6:3 7:87 7:97 7:114 7:100 1:1 6:3 7:119 7:65 7:82 7:68 6:0
+named 0 "X and :x" $one_line 8:2 $capital_x $global_x 6:1 $set_1 $one
+named 0 "[, {, @ and \`" $one_line 8:4 1:0 6:0 7:91 1:0 6:0 7:123 1:0 6:0 7:64 1:0 6:0 7:96 6:1 $set_1 $one
 named 7 "depth 65" $one_line 8:1 $x 6:1 $set_0 $(repeat 64 3:1 4:0) $one
 named 8 "2,079 nodes" 8:1 8:33 8:1 $x $(repeat 33 6:63 $(repeat 63 $increment))
 named 9 "a fill bit" $one_line 8:0 6:0 2:1

@@ -6,8 +6,9 @@ use crate::generate::broken;
 use crate::judge::{ask_yogi, change, jump_targets, machine_of, pass, Answer, Op, Options, Stage};
 use crate::line;
 use crate::machine::{op, pack, unpack, Ins, Kind, Machine, Next};
-use crate::tree::decode;
+use crate::tree::{decode, encode, Expr, Name, Stmt, Tree};
 use crate::yogi::ir::glue::instrs;
+use crate::yogi::parser::Ident;
 
 fn machine(stage: Stage, hex: &str) -> Machine {
     let tree = decode(&unhex(hex).unwrap()).expect("an accepted tree");
@@ -73,9 +74,58 @@ fn sections() {
     assert!(loose.sections[1..].iter().all(|s| s.next == Next::Section(3)));
 }
 
+/// Of each pair of ASCII characters, with and without a flag: are they one name? The reader, the judge and yogi's constructors agree.
 #[test]
-fn case_counts() {
-    assert_eq!(finished("01010301e207801600").names.len(), 3);
+fn case_does_not_count() {
+    let named = |c: u8, global: bool| Name { global, text: vec![c] };
+    let construct = |n: &Name| {
+        let text = char::from(n.text[0]).to_string();
+        if n.global {
+            Ident::global(&text)
+        } else {
+            Ident::local(&text)
+        }
+    };
+    let mut same_pairs = 0;
+    for (a, b) in (0..128).flat_map(|a| (0..128).map(move |b| (a, b))) {
+        for (f, g) in [(false, false), (false, true), (true, true)] {
+            let (x, y) = (named(a, f), named(b, g));
+            let letters = a.is_ascii_alphabetic() && b.is_ascii_alphabetic();
+            let same = f == g && (a == b || letters && a & 31 == b & 31);
+            same_pairs += usize::from(same && a != b);
+            assert_eq!(x.same(&y), same, "{x:?} {y:?}");
+            assert_eq!(construct(&x) == construct(&y), same, "{x:?} {y:?}");
+            let file = encode(&Tree {
+                names: vec![x, y],
+                lines: vec![vec![]],
+            });
+            assert_eq!(decode(&file).err(), same.then_some(6));
+        }
+    }
+    assert_eq!(same_pairs, 2 * 2 * 26);
+    assert_eq!(decode(&unhex("01010301e207801600").unwrap()).err(), Some(6));
+}
+
+/// A name is spelled in whatever case: the machine is that of the folded names.
+#[test]
+fn spelling_does_not_show() {
+    let tree = |name: &str| {
+        let name = Name {
+            global: true,
+            text: name.into(),
+        };
+        let line = vec![Stmt::Incdec(true, 0), Stmt::Goto(Expr::Ident(0))];
+        encode(&Tree {
+            names: vec![name],
+            lines: vec![line],
+        })
+    };
+    let built = |name: &str| match machine_of(Stage::Finish, &decode(&tree(name)).unwrap(), Options::of_number(0)) {
+        Answer::Done(machine) => pack(&machine),
+        _ => panic!("yogi panics"),
+    };
+    assert_ne!(tree("Ward"), tree("ward"));
+    assert_eq!(built("Ward"), built("ward"));
 }
 
 #[test]

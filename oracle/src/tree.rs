@@ -9,6 +9,25 @@ pub struct Name {
     pub text: Vec<u8>,
 }
 
+impl Name {
+    /// With A to Z read as a to z.
+    pub fn folded(&self) -> Name {
+        Name {
+            text: self.text.to_ascii_lowercase(),
+            ..*self
+        }
+    }
+
+    pub fn same(&self, other: &Name) -> bool {
+        self.folded() == other.folded()
+    }
+
+    /// Is it among these, spelled in whatever case?
+    pub fn among(&self, names: &[Name]) -> bool {
+        names.iter().any(|name| name.same(self))
+    }
+}
+
 #[derive(Debug, Clone, PartialEq, Eq)]
 pub enum Expr {
     Binop(u8, Box<Expr>, Box<Expr>),
@@ -151,7 +170,7 @@ impl Decoder<'_> {
             global,
             text: self.characters(length)?,
         };
-        if self.names.contains(&name) {
+        if name.among(&self.names) {
             return Err(R_SAME);
         }
         Ok(name)

@@ -3,6 +3,7 @@
 use crate::script::*;
 use std::collections::HashMap;
 use std::fmt;
+use std::hash::{Hash, Hasher};
 
 /// What the tree form cannot hold. Its other limits are the library's to refuse.
 #[derive(Debug, Clone, Copy, PartialEq, Eq)]
@@ -37,8 +38,15 @@ pub struct Packed {
     pub names: Vec<Ident>,
 }
 
+impl Packed {
+    /// The number of a name in the table, in whatever case it is spelled.
+    pub fn number(&self, ident: &Ident) -> Option<usize> {
+        self.names.iter().position(|name| name.is_same(ident))
+    }
+}
+
 impl Script {
-    /// Names are in the order in which they first stand in the script.
+    /// Names are in the order in which they first stand in the script. Those that differ only in case are one, spelled as it first stands.
     pub fn pack(&self) -> Result<Packed, PackError> {
         let mut packing = Packing::default();
         for line in &self.lines {
@@ -117,21 +125,39 @@ impl Bits {
     }
 }
 
-#[derive(Default)]
-struct Packing {
-    body: Bits,
-    names: Vec<Ident>,
-    numbers: HashMap<Ident, u64>,
+/// A name as a key: names that are the same are one key.
+struct Key<'a>(&'a Ident);
+
+impl PartialEq for Key<'_> {
+    fn eq(&self, other: &Self) -> bool {
+        self.0.is_same(other.0)
+    }
 }
 
-impl Packing {
-    fn name(&mut self, ident: &Ident) -> Result<(), PackError> {
-        let number = match self.numbers.get(ident) {
+impl Eq for Key<'_> {}
+
+impl Hash for Key<'_> {
+    fn hash<H: Hasher>(&self, state: &mut H) {
+        self.0.global.hash(state);
+        self.0.name.bytes().for_each(|c| state.write_u8(c.to_ascii_lowercase()));
+    }
+}
+
+#[derive(Default)]
+struct Packing<'a> {
+    body: Bits,
+    names: Vec<Ident>,
+    numbers: HashMap<Key<'a>, u64>,
+}
+
+impl<'a> Packing<'a> {
+    fn name(&mut self, ident: &'a Ident) -> Result<(), PackError> {
+        let number = match self.numbers.get(&Key(ident)) {
             Some(&number) => number,
             None => {
                 let number = within(self.names.len(), 254, PackError::TooManyNames)?;
                 self.names.push(ident.clone());
-                self.numbers.insert(ident.clone(), number);
+                self.numbers.insert(Key(ident), number);
                 number
             }
         };
@@ -139,17 +165,17 @@ impl Packing {
         Ok(())
     }
 
-    fn incdec(&mut self, incdec: &Incdec) -> Result<(), PackError> {
+    fn incdec(&mut self, incdec: &'a Incdec) -> Result<(), PackError> {
         self.body.put(1, incdec.inc.into());
         self.name(&incdec.ident)
     }
 
-    fn list(&mut self, list: &[Statement]) -> Result<(), PackError> {
+    fn list(&mut self, list: &'a [Statement]) -> Result<(), PackError> {
         self.body.put(6, within(list.len(), 63, PackError::TooManyStatements)?);
         list.iter().try_for_each(|stmt| self.stmt(stmt))
     }
 
-    fn stmt(&mut self, stmt: &Statement) -> Result<(), PackError> {
+    fn stmt(&mut self, stmt: &'a Statement) -> Result<(), PackError> {
         match stmt {
             Statement::Goto(e) => {
                 self.body.put(2, 0);
@@ -174,7 +200,7 @@ impl Packing {
         }
     }
 
-    fn expr(&mut self, expr: &Expr) -> Result<(), PackError> {
+    fn expr(&mut self, expr: &'a Expr) -> Result<(), PackError> {
         match expr {
             Expr::Binop(l, op, r) => {
                 self.body.put(3, 0);

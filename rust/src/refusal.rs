@@ -36,7 +36,7 @@ refusals! {
     3 Ends "the file ends inside a field"
     4 Unassigned "a kind or an operator is not assigned"
     5 NoName "a name is not in the table of names"
-    6 SameNames "two names are the same"
+    6 SameNames "two names are the same (upper and lower case do not count)"
     7 TooDeep "a node lies deeper than 64"
     8 TooManyNodes "there are more than 2,048 nodes"
     9 Left "a fill bit is not zero, or a byte is left over"

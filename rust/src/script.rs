@@ -11,7 +11,8 @@ pub struct Line {
     pub stmts: Vec<Statement>,
 }
 
-/// A name; a global one is written with a colon. Upper and lower case are told apart: whoever parses has folded them, as yogi does.
+/// A name; a global one is written with a colon. It is kept as it is spelled, and `==` compares how it is spelled; but `Ward` and `ward` are
+/// the same name ([`Ident::is_same`]): one variable, as with yogi, whose constructors fold case.
 #[derive(Debug, Clone, PartialEq, Eq, Hash)]
 pub struct Ident {
     pub name: String,
@@ -25,6 +26,11 @@ impl Ident {
 
     pub fn global(name: &str) -> Self {
         Ident { name: name.into(), global: true }
+    }
+
+    /// Are both local or both global, and the same characters with A to Z read as a to z?
+    pub fn is_same(&self, other: &Ident) -> bool {
+        self.global == other.global && self.name.eq_ignore_ascii_case(&other.name)
     }
 }
 

@@ -83,6 +83,47 @@ fn names_numbers_and_texts() {
     assert_eq!(Machine::finish(&packed.bytes, both).unwrap().name(1), Some(ValReg(3)));
 }
 
+fn global(name: &str) -> Expr {
+    Expr::Ident(Ident::global(name))
+}
+
+/// `Ward` and `ward` are one variable: one entry, spelled as it first stands, and the machine of a script without capitals.
+#[test]
+fn upper_and_lower_case_are_one_name() {
+    let step = |name: &str| Statement::Incdec(Incdec { inc: true, ident: Ident::local(name) });
+    let spelled = |names: [&str; 5]| {
+        let [a, b, c, d, e] = names;
+        one_line(vec![assign(a, local(b)), assign(c, global(d)), step(e)])
+    };
+    let mixed = spelled(["Ward", "wARD", "ward", "WARD", "waRd"]).pack().unwrap();
+    let plain = spelled(["ward"; 5]).pack().unwrap();
+    assert_eq!(mixed.names, [Ident::local("Ward"), Ident::global("WARD")]);
+    assert_eq!(plain.names, [Ident::local("ward"), Ident::global("ward")]);
+    assert_eq!((mixed.number(&Ident::local("WARD")), mixed.number(&Ident::global("ward"))), (Some(0), Some(1)));
+    assert_eq!(mixed.number(&Ident::local("wards")), None);
+    let all = CodegenOptions { protect_locals: true, protect_globals: true };
+    let finished = |packed: &Packed| Machine::finish(&packed.bytes, all).unwrap();
+    assert_eq!(finished(&mixed).tables(), finished(&plain).tables());
+    // 255 names fit, in however many spellings
+    let twice = |i: usize| Line { stmts: vec![assign(&format!("x{i}"), local(&format!("X{i}")))] };
+    assert_eq!(Script { lines: (0..255).map(twice).collect() }.pack().unwrap().names.len(), 255);
+}
+
+/// Every ASCII character beside every other, as names of one character: one entry if they are the same letter.
+#[test]
+fn no_other_characters_are_one_name() {
+    let text = |c: u8| char::from(c).to_string();
+    for (a, b) in (0..128u8).flat_map(|a| (0..128).map(move |b| (a, b))) {
+        let packed = one_line(vec![assign(&text(a), local(&text(b)))]).pack().unwrap();
+        let same = a == b || a.is_ascii_alphabetic() && b.is_ascii_alphabetic() && a & 31 == b & 31;
+        assert_eq!(packed.names.len(), if same { 1 } else { 2 }, "{a} {b}");
+        assert_eq!(size(&packed.bytes).map(|s| s.names), Ok(packed.names.len()), "{a} {b}");
+    }
+    // yogi would read the Kelvin sign as k; the tree form has no such character
+    let kelvin = one_line(vec![assign("k", local("\u{212a}"))]);
+    assert_eq!(kelvin.pack().err(), Some(PackError::NotAscii));
+}
+
 #[test]
 fn words_beyond_the_estimate_stay() {
     let tree = bytes(&mixed(3, 200));

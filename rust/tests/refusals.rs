@@ -43,8 +43,9 @@ fn of_the_file() {
     tree_refused(&[1, 1, 0, 0x04, 0xe0], Refusal::Unassigned);
     // an increment of name 0 where there are none
     tree_refused(&[1, 1, 0, 0x06, 0x80, 0x00], Refusal::NoName);
-    // the name x twice
+    // the name x twice; the names x and X
     tree_refused(&[1, 1, 2, 0x01, 0xe0, 0x07, 0x80, 0x00], Refusal::SameNames);
+    tree_refused(&[1, 1, 2, 0x01, 0xe0, 0x05, 0x80, 0x00], Refusal::SameNames);
     tree_refused(&[1, 1, 0, 0, 0], Refusal::Left);
     tree_refused(&[1, 1, 0, 1], Refusal::Left);
 }

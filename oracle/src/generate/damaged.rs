@@ -1,6 +1,6 @@
 //! Files that are mostly refused: cut, flipped, aimed at single fields, at random.
 
-use super::fixed::{deep_unops, local, many_incdecs, of_bytes};
+use super::fixed::{deep_unops, global, local, many_incdecs, of_bytes};
 use super::{in_turn, trees};
 use crate::bits::patch;
 use crate::limits::*;
@@ -88,29 +88,26 @@ fn behind(bytes: &[u8]) -> Vec<Vec<u8>> {
         .into()
 }
 
+/// Two names the same, or the same but for case, beside others that differ in flag or in a character next to the letters.
 fn same_names() -> Vec<Vec<u8>> {
-    let x = local("x");
-    let other = Name {
-        global: true,
-        ..x.clone()
-    };
     let lists = [
-        vec![x.clone(), x.clone()],
-        vec![x.clone(), other.clone(), x.clone()],
-        vec![other.clone(), other, x.clone()],
+        vec![local("x"), local("x")],
+        vec![local("y"), local("X"), local("x")],
+        vec![local("Z"), local("z")],
+        vec![local("A"), local("[a"), local("{a"), local("[A")],
+        vec![local("@"), local("`"), local("Ward"), local("wARD")],
+        vec![global("aZ"), local("Az"), global("Az")],
+        vec![local("x"), global("x"), local("x")],
+        vec![global("x"), global("x"), local("x")],
         vec![local("xy"), local("x"), local("xz"), local("xy")],
-        vec![x.clone(), local("X"), local("y"), x],
     ];
-    let mut out = vec![];
-    for names in lists {
-        let bytes = encode(&Tree {
-            names,
-            lines: vec![vec![]],
-        });
-        // cut just behind the second name the refusal is the same, before its end it is 3
-        out.extend((0..4.min(bytes.len())).map(|n| bytes[..bytes.len() - n].to_vec()));
-    }
-    out
+    let files = lists.map(|names| {
+        let lines = vec![vec![]];
+        encode(&Tree { names, lines })
+    });
+    // cut just behind the second name the refusal is the same, before its end it is 3
+    let cut = |n: usize| files.iter().map(move |bytes| bytes[..bytes.len() - n].to_vec());
+    (0..4).flat_map(cut).collect()
 }
 
 /// Depth 65 and node 2,049, and files that end where such a node would begin.
@@ -166,6 +163,17 @@ fn aimed() -> Vec<Vec<u8>> {
     out
 }
 
+/// A valid tree, and among its names one again in another case.
+fn same_but_case(rng: &mut Rng, most_bytes: usize) -> Vec<u8> {
+    let mut tree = trees::sized(rng, most_bytes).0;
+    if !tree.names.is_empty() {
+        let mut name = rng.pick(&tree.names);
+        trees::respell(rng, &mut name);
+        tree.names.insert(rng.below(tree.names.len() + 1), name);
+    }
+    encode(&tree)
+}
+
 fn hurt(rng: &mut Rng, bytes: &mut Vec<u8>) {
     let length = bytes.len().max(1);
     match rng.below(5) {
@@ -183,6 +191,9 @@ fn random(rng: &mut Rng, most_bytes: usize) -> Vec<u8> {
         let mut bytes = vec![1, 1 + rng.below(3) as u8, rng.below(3) as u8];
         bytes.extend((0..rng.below(40)).map(|_| rng.next() as u8));
         return bytes;
+    }
+    if rng.chance(5) {
+        return same_but_case(rng, most_bytes);
     }
     let mut bytes = trees::sized(rng, most_bytes).1;
     for _ in 0..1 + rng.below(2) {

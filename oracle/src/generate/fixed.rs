@@ -11,7 +11,7 @@ pub fn local(text: &str) -> Name {
     }
 }
 
-fn global(text: &str) -> Name {
+pub fn global(text: &str) -> Name {
     Name {
         global: true,
         text: text.as_bytes().to_vec(),
@@ -166,10 +166,13 @@ fn names() -> Vec<Tree> {
     let long = "a".repeat(MOST_NAME - 1);
     let near = vec![
         local("x"),
-        global("x"),
-        local("X"),
-        local("xa"),
-        local("xb"),
+        global("X"),
+        local("Xa"),
+        local("xB"),
+        local("@"),
+        local("`"),
+        local("Z["),
+        local("z{"),
         global(&(long.clone() + "a")),
         global(&(long + "b")),
         local("\0"),
@@ -188,7 +191,7 @@ fn names() -> Vec<Tree> {
             lines: vec![vec![Stmt::Goto(Expr::String(vec![]))]],
         },
         Tree {
-            names: vec![local("x"), global("x"), local("X")],
+            names: vec![local("Ward"), global("wARD"), local("Wards")],
             lines: vec![vec![]],
         },
         Tree {

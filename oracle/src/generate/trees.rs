@@ -142,12 +142,12 @@ fn one_name(rng: &mut Rng) -> Name {
         2..=9 => 2 + rng.below(2),
         _ => 1,
     };
-    // few letters, so that names differ in flag, case or one character only
+    // few characters, among them those next to the letters, so that names differ in flag or one character only
     let text = (0..length).map(|_| {
         if rng.chance(3) {
             rng.below(128) as u8
         } else {
-            rng.pick(b"aAbx")
+            rng.pick(b"aaAAbzZ@`[{")
         }
     });
     Name {
@@ -156,6 +156,19 @@ fn one_name(rng: &mut Rng) -> Name {
     }
 }
 
+/// What upper and lower case differ in, and other characters too.
+pub const CASE_BIT: u8 = 0x20;
+
+/// Letters in the other case, here and there.
+pub fn respell(rng: &mut Rng, name: &mut Name) {
+    for c in &mut name.text {
+        if c.is_ascii_alphabetic() && rng.chance(50) {
+            *c ^= CASE_BIT;
+        }
+    }
+}
+
+/// Names of which no two are the same.
 pub fn names(rng: &mut Rng, most: usize) -> Vec<Name> {
     let mut names: Vec<Name> = vec![];
     for _ in 0..most {
@@ -164,11 +177,12 @@ pub fn names(rng: &mut Rng, most: usize) -> Vec<Name> {
             name = last.clone();
             match rng.below(3) {
                 0 => name.global ^= true,
-                1 => name.text[0] ^= 0x20,
+                1 => name.text[0] ^= CASE_BIT,
                 _ => *name.text.last_mut().unwrap() ^= 1,
             }
+            respell(rng, &mut name);
         }
-        if !names.contains(&name) {
+        if !name.among(&names) {
             names.push(name);
         }
     }

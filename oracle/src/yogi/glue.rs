@@ -51,9 +51,12 @@ fn text(bytes: &[u8]) -> String {
     bytes.iter().map(|&b| char::from(b)).collect()
 }
 
-/// Built literally: yogi's constructors fold case, the tree form does not.
+/// yogi is run on folded names. Its constructors must make the same of a name as it is spelled.
 fn ident(name: &tree::Name) -> Ident {
-    Ident { name: text(&name.text), global: name.global }
+    let built = Ident { name: text(&name.folded().text), global: name.global };
+    let construct = if name.global { Ident::global } else { Ident::local };
+    assert_eq!(construct(&text(&name.text)), built, "yogi's constructor folds otherwise");
+    built
 }
 
 struct Names<'a>(&'a [tree::Name]);

@@ -29,8 +29,10 @@ operators!(to_assign, from_assign, AssignOp, Add Sub Mul Div Mod Pow);
 // ---- to yogi
 
 /// Built literally: yogi's constructors fold case.
+/// yogi's constructors fold case.
 fn to_ident(ident: &Ident) -> parser::Ident {
-    parser::Ident { name: ident.name.clone(), global: ident.global }
+    let construct = if ident.global { parser::Ident::global } else { parser::Ident::local };
+    construct(&ident.name)
 }
 
 fn to_incdec(incdec: &Incdec) -> parser::Incdec {
