@@ -146,8 +146,9 @@ impl Plain {
             return Err(Refusal::Ends);
         }
         self.at += 7 * length;
+        let letter = |at: usize| (peek(&self.bytes, at, 7) as u8).to_ascii_lowercase();
         for &(g, f, l) in &self.names {
-            if g == global && l == length && (0..length).all(|i| peek(&self.bytes, f + 7 * i, 7) == peek(&self.bytes, from + 7 * i, 7)) {
+            if g == global && l == length && (0..length).all(|i| letter(f + 7 * i) == letter(from + 7 * i)) {
                 return Err(Refusal::SameNames);
             }
         }
