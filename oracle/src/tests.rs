@@ -7,8 +7,7 @@ use crate::judge::{ask_yogi, change, jump_targets, machine_of, pass, Answer, Op,
 use crate::line;
 use crate::machine::{op, pack, unpack, Ins, Kind, Machine, Next};
 use crate::tree::{decode, encode, Expr, Name, Stmt, Tree};
-use crate::yogi::ir::glue::instrs;
-use crate::yogi::parser::Ident;
+use crate::yogi::ir::glue::{construct, instrs};
 
 fn machine(stage: Stage, hex: &str) -> Machine {
     let tree = decode(&unhex(hex).unwrap()).expect("an accepted tree");
@@ -78,14 +77,7 @@ fn sections() {
 #[test]
 fn case_does_not_count() {
     let named = |c: u8, global: bool| Name { global, text: vec![c] };
-    let construct = |n: &Name| {
-        let text = char::from(n.text[0]).to_string();
-        if n.global {
-            Ident::global(&text)
-        } else {
-            Ident::local(&text)
-        }
-    };
+    let built = |n: &Name| construct(&char::from(n.text[0]).to_string(), n.global);
     let mut same_pairs = 0;
     for (a, b) in (0..128).flat_map(|a| (0..128).map(move |b| (a, b))) {
         for (f, g) in [(false, false), (false, true), (true, true)] {
@@ -94,7 +86,7 @@ fn case_does_not_count() {
             let same = f == g && (a == b || letters && a & 31 == b & 31);
             same_pairs += usize::from(same && a != b);
             assert_eq!(x.same(&y), same, "{x:?} {y:?}");
-            assert_eq!(construct(&x) == construct(&y), same, "{x:?} {y:?}");
+            assert_eq!(built(&x) == built(&y), same, "{x:?} {y:?}");
             let file = encode(&Tree {
                 names: vec![x, y],
                 lines: vec![vec![]],
@@ -104,6 +96,8 @@ fn case_does_not_count() {
     }
     assert_eq!(same_pairs, 2 * 2 * 26);
     assert_eq!(decode(&unhex("01010301e207801600").unwrap()).err(), Some(6));
+    // beyond ASCII yogi folds more: the Kelvin sign is k
+    assert_eq!(construct("\u{212a}", false), construct("k", false));
 }
 
 /// A name is spelled in whatever case: the machine is that of the folded names.

@@ -157,7 +157,7 @@ fn one_name(rng: &mut Rng) -> Name {
 }
 
 /// What upper and lower case differ in, and other characters too.
-pub const CASE_BIT: u8 = 0x20;
+const CASE_BIT: u8 = 0x20;
 
 /// Letters in the other case, here and there.
 pub fn respell(rng: &mut Rng, name: &mut Name) {

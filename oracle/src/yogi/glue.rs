@@ -51,11 +51,19 @@ fn text(bytes: &[u8]) -> String {
     bytes.iter().map(|&b| char::from(b)).collect()
 }
 
+/// By yogi's own constructors, which fold case.
+pub fn construct(name: &str, global: bool) -> Ident {
+    if global {
+        Ident::global(name)
+    } else {
+        Ident::local(name)
+    }
+}
+
 /// yogi is run on folded names. Its constructors must make the same of a name as it is spelled.
 fn ident(name: &tree::Name) -> Ident {
     let built = Ident { name: text(&name.folded().text), global: name.global };
-    let construct = if name.global { Ident::global } else { Ident::local };
-    assert_eq!(construct(&text(&name.text)), built, "yogi's constructor folds otherwise");
+    assert_eq!(construct(&text(&name.text), name.global), built, "yogi's constructor folds otherwise");
     built
 }
 

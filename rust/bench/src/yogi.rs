@@ -3,6 +3,7 @@
 
 use oracle::machine::{self, unpack};
 use oracle::yogi::arith;
+use oracle::yogi::ir::glue;
 use oracle::yogi::parser;
 use sezkibalo::*;
 
@@ -28,11 +29,8 @@ operators!(to_assign, from_assign, AssignOp, Add Sub Mul Div Mod Pow);
 
 // ---- to yogi
 
-/// Built literally: yogi's constructors fold case.
-/// yogi's constructors fold case.
 fn to_ident(ident: &Ident) -> parser::Ident {
-    let construct = if ident.global { parser::Ident::global } else { parser::Ident::local };
-    construct(&ident.name)
+    glue::construct(&ident.name, ident.global)
 }
 
 fn to_incdec(incdec: &Incdec) -> parser::Incdec {
