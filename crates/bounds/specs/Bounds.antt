@@ -1,4 +1,4 @@
--- The counts of a parsed tree's machine lie below 65,535.
+-- How large the counts of a parsed tree's machine may be; proofs/Bounds shows that they are no larger.
 use Rattle.std.specs.Prelude.{◌≡◌, refl, List, [], ◌∷◌, ℕ, ◌+◌, ◌*◌, ◌≤◌, ◌<◌}
 use Rattle.std.proofs.Common.{arith}
 use Rattle.rules.specs.Constants.{mostNodes, mostLines, mostNames, numbersANode, instrsANode, sectionsAStatement}
@@ -11,8 +11,8 @@ use Rattle.rules.specs.Annotate.{fresh}
 use Rattle.rules.specs.Lowered.{Options, lowered}
 use Rattle.rules.specs.Operations.{sizeOf, estimate}
 use Rattle.bounds.specs.LimitsTree.{limits}
-use Rattle.bounds.specs.Own.{annotate-made}
-use Rattle.bounds.specs.Estimate.{estimated}
+use Rattle.bounds.proofs.Own.{annotate-made}
+use Rattle.bounds.proofs.Estimate.{estimated}
 
 pub record Few (k : Tally) : Type 0 where
   pub statements : k.statements ≤ k.nodes
@@ -59,22 +59,3 @@ pub record Small (u : Counts) : Type 0 where
   pub pool : u.pool ≤ 37449
   pub names : u.names ≤ mostNames
   pub values : u.values ≤ 6144
-
--- All counts of the lowered machine are small: far below 65,535.
-pub small : (o : Options) (s : List ℕ) (t : Tree) → parse s ≡ ok t → Small (countsOf (lowered o t))
-unfolding estimate sizeOf fresh countsOf lowered
-small o s t e =
-    let l = limits s t e in
-    let w = estimated o t in
-    let f = few-lines t.lines in
-    record {
-      some-lines = omega (arith, w.lines, l.some-lines);
-      lines = omega (arith, w.lines, l.most-lines);
-      sections = omega (arith, w.sections, l.most-lines, l.most-nodes, f.statements);
-      instrs = omega (arith, w.instrs, l.most-nodes);
-      numbers = omega (arith, w.numbers, l.most-nodes);
-      strings = omega (arith, w.strings, l.most-nodes, f.strings);
-      pool = omega (arith, w.pool, l.most-chars);
-      names = omega (arith, w.names, l.most-names);
-      values = omega (arith, (annotate-made t).went.values-most, l.most-nodes);
-    }

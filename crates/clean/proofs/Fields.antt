@@ -9,9 +9,9 @@ use Rattle.rules.specs.Word.{Run, wordRun}
 use Rattle.rules.specs.Machine.{SectionOrLine, unfixed, section, line, isFixed}
 use Rattle.rules.specs.Tables.{successOf, kindOf, targetOf}
 use Rattle.rules.specs.Clean.{renNext}
-use Rattle.laws.specs.Words.{run-back, wordRun-small}
+use Rattle.laws.proofs.Words.{run-back, wordRun-small}
 use Rattle.words.specs.Runs as Runs
-use Rattle.laws.specs.SectionWord.{kind-lt, target-again}
+use Rattle.laws.proofs.SectionWord.{kind-lt, target-again}
 use Rattle.tables.specs.Runs.{fixedWord, countOf}
 use Rattle.clean.specs.Pass.{firstOf, withFirst, withTarget}
 

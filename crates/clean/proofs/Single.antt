@@ -11,7 +11,7 @@ use Rattle.rules.specs.Constants.{mark}
 use Rattle.rules.specs.Word.{wordRun, runWord}
 use Rattle.rules.specs.Machine.{SectionOrLine}
 use Rattle.rules.specs.Tables.{successOf, runOf}
-use Rattle.laws.specs.Words.{wordRun-small}
+use Rattle.laws.proofs.Words.{wordRun-small}
 use Rattle.clean.specs.Pass.{firstOf, newNumber, packedWord}
 
 pub first_at : (ss : List ℕ) (t : ℕ) → get_or (map firstOf ss) t 0 ≡ (wordRun (get_or ss t 0)).first

@@ -14,7 +14,7 @@ use Rattle.rules.specs.Constants.{mark}
 use Rattle.rules.specs.Instr.{Instruction, ins₁, ins₂, ins₃, canRuntimeErr, Kind, unused, val, table, kinds}
 use Rattle.rules.specs.Word.{insWord, wordIns, spanWord}
 use Rattle.laws.specs.Table.{isPlace, opcode-bits, past-jumps}
-use Rattle.laws.specs.Words.{ins-back}
+use Rattle.laws.proofs.Words.{ins-back}
 use Rattle.rules.specs.CodegenData.{CodegenData, Lower, pure, emit, newNum, newStr, newVal}
 use Rattle.rules.specs.Lowered.{spans, texts}
 use Rattle.rules.specs.Operators.{errorJump, getVariable, guard, incdecOp}

@@ -13,9 +13,10 @@ use Rattle.rules.specs.Instr.{Kind, kinds}
 use Rattle.rules.specs.Word.{insWord, wordIns, insSpare, runWord, wordRun, runSpare}
 use Rattle.rules.specs.Tables.{Tables, Counts, allb, insFits, fieldFits, successFits, startFits, runsFit, successOf, readSections, runWords, allCode, runOf}
 use Rattle.rules.specs.Preservation.{All}
-use Rattle.laws.specs.Words.{InsSmall, ins-small, ins-again, wordRun-small}
+use Rattle.laws.specs.Words.{InsSmall}
+use Rattle.laws.proofs.Words.{ins-small, ins-again, wordRun-small}
 use Rattle.laws.specs.Lists.{both, take-below}
-use Rattle.laws.specs.SectionWord.{next-small, word-again}
+use Rattle.laws.proofs.SectionWord.{next-small, word-again}
 use Rattle.laws.specs.Sections.{words-nil, words-cons, code-nil, code-cons}
 use Rattle.tables.specs.Rules.{sectionFits}
 use Rattle.tables.specs.Runs.{countOf, total, sectionOf, held}

@@ -17,7 +17,7 @@ use Rattle.rules.specs.Combine.{combined}
 use Rattle.rules.specs.Lowered.{Options, lowered, finished}
 use Rattle.rules.specs.Operations.{sizeOf, estimate, holds, put, write, build, lower, finish}
 use Rattle.bounds.specs.Parsed.{refused≢ok}
-use Rattle.walks.specs.Theorems.{lowered-estimated}
+use Rattle.walks.proofs.Theorems.{lowered-estimated}
 use Rattle.tables.specs.Runs.{held}
 use Rattle.combine.proofs.Loop.{put-twice}
 use Rattle.finish.specs.Passes.{Lowered, finishSections, Finished}

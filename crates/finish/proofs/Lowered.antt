@@ -15,12 +15,12 @@ use Rattle.rules.specs.Combine.{combineSections}
 use Rattle.rules.specs.Lowered.{lowered, finished}
 use Rattle.rules.specs.Operations.{allAhead}
 use Rattle.machines.specs.Fits.{MachineFit, encoded-fits}
-use Rattle.bounds.specs.Estimate.{code-length}
+use Rattle.bounds.proofs.Estimate.{code-length}
 use Rattle.machines.specs.Targets.{clean-length}
 use Rattle.machines.specs.TreeFits.{clean-len, lowered-fit, cleaned-fit}
 use Rattle.machines.specs.Back.{put-begins}
 use Rattle.laws.specs.Sections.{words-length, keep-length}
-use Rattle.walks.specs.Theorems.{combined-is}
+use Rattle.walks.proofs.Theorems.{combined-is}
 use Rattle.tables.specs.Runs.{total, held}
 use Rattle.tables.proofs.Sound.{sound}
 use Rattle.tables.proofs.Read.{whole-total}

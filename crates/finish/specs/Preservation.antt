@@ -8,7 +8,7 @@ use Rattle.rules.specs.Tables.{Tables, Counts, countsOf, decode}
 use Rattle.rules.specs.Lowered.{Options, finished}
 use Rattle.rules.specs.Operations.{finish}
 use Rattle.rules.specs.Preservation.{Preserves}
-use Rattle.walks.specs.Theorems.{finish-preserves}
+use Rattle.walks.proofs.Theorems.{finish-preserves}
 
 -- of a file s, the tables t and the counts u: decoded, they are the finished machine of the file's tree, and for every list of outcomes its
 -- walk preserves the reading of the tree

@@ -7,7 +7,8 @@ use Rattle.rules.specs.Word.{insWord, wordIns}
 use Rattle.rules.specs.Machine.{SectionOrLine, SectionCode}
 use Rattle.rules.specs.Tables.{runWords, allCode, readSections}
 use Rattle.rules.specs.Preservation.{All}
-use Rattle.laws.specs.Words.{InsSmall, ins-back}
+use Rattle.laws.specs.Words.{InsSmall}
+use Rattle.laws.proofs.Words.{ins-back}
 use Rattle.laws.specs.Sections.{code-cons}
 use Rattle.tables.specs.Runs.{countOf, sectionOf, held}
 use Rattle.tables.proofs.Read.{read-nil, read-cons}

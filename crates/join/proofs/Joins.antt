@@ -20,7 +20,7 @@ use Rattle.rules.specs.Clean.{renIns, ren}
 use Rattle.rules.specs.Combine.{joined, combineAt}
 use Rattle.rules.specs.Preservation.{All}
 use Rattle.laws.specs.Lists.{all-left, all-right, all-append}
-use Rattle.laws.specs.SectionWord.{first-is, count-is}
+use Rattle.laws.proofs.SectionWord.{first-is, count-is}
 use Rattle.laws.specs.Words.{InsSmall}
 use Rattle.laws.specs.Sections.{words-length, words-cons, words-append, code-append}
 use Rattle.tables.specs.Runs.{countOf, total}

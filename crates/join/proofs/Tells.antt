@@ -11,7 +11,8 @@ use Rattle.rules.specs.Tables.{successOf, runWords, allCode, runOf}
 use Rattle.rules.specs.Clean.{renNext, ren}
 use Rattle.rules.specs.Combine.{joined}
 use Rattle.rules.specs.Preservation.{All}
-use Rattle.laws.specs.SectionWord.{NextSmall, start-is, next-is, count-is}
+use Rattle.laws.specs.SectionWord.{NextSmall}
+use Rattle.laws.proofs.SectionWord.{start-is, next-is, count-is}
 use Rattle.laws.specs.Sections.{words-nil, words-cons, code-nil, code-cons}
 use Rattle.join.specs.Held.{SectSmall}
 use Rattle.tables.specs.Runs.{countOf, total}

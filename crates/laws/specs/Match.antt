@@ -1,10 +1,20 @@
 -- A `match` on a number with keys and ranges, against a function of the number: the values at all the numbers of an arm are computed and compared
 -- as one list. Assumes nothing.
-use Rattle.std.specs.Prelude.{◌≡◌, Bool, true, false, ◌||◌, List, [], ◌∷◌, ℕ, zero, suc, ◌+◌, ◌<◌, ◌≤◌, T}
+use Rattle.std.specs.Prelude.{◌≡◌, Bool, true, false, ◌||◌, List, [], ◌∷◌, map, ℕ, zero, suc, ◌+◌, ◌<◌, ◌≤◌, T}
 use Rattle.std.proofs.Common.{⊎_elim, arith, eq-or-lt_of_le}
 use Rattle.std.proofs.Math.Facts.{or_yes}
 use mir.Val.{has_key}
 use types.Run.{OneOf, hit}
+
+-- ---- an arm of keys
+
+pub at-keys : {A : Type 0} (f : ℕ → A) (x : A) (ks : List ℕ) → map (λ k. x) ks ≡ map f ks → (n : ℕ) → OneOf ks n → x ≡ f n
+at-keys f x [] h n e = absurd e
+at-keys f x (k ∷ []) h n e = let q : x ≡ f k = cc in rw e q
+at-keys f x (k ∷ (j ∷ ks)) h n e =
+    let q : x ≡ f k = cc in
+    let t : map (λ i. x) (j ∷ ks) ≡ map f (j ∷ ks) = cc in
+    ⊎_elim (λ d. rw d q) (λ d. at-keys f x (j ∷ ks) t n d) e
 
 -- ---- an arm of a range, of which earlier arms took some keys
 

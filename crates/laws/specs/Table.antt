@@ -1,12 +1,12 @@
 -- The opcode table: a test that is computed over all its rows holds of each row. Assumes nothing.
-use Rattle.std.specs.Prelude.{◌≡◌, Bool, false, List, [], ◌∷◌, ℕ, zero, suc, ◌≤◌, ◌<◌, eqb, ltb, leb, length}
+use Rattle.std.specs.Prelude.{◌≡◌, Bool, false, List, [], ◌∷◌, map, ℕ, zero, suc, ◌≤◌, ◌<◌, eqb, ltb, leb, length}
 use Rattle.std.proofs.Math.Path.{refl}
-use Rattle.std.proofs.Common.{sym, ap, ◌∙◌, zero-le, arith, ltb-true, leb-false}
+use Rattle.std.proofs.Common.{sym, ap, ◌∙◌, zero-le, arith, ne_eqb, ltb-true, leb-false}
 use Rattle.std.proofs.Math.Bool.{true}
 use Rattle.std.proofs.Math.Option.{Option, none, some}
 use Rattle.std.proofs.Math.ListN.{get_elem?}
 use Rattle.rules.specs.Opcode.{JumpIfError}
-use Rattle.rules.specs.Instr.{Kind, unused, num, str, val, place, Row, table, kinds}
+use Rattle.rules.specs.Instr.{Instruction, Kind, unused, num, str, val, place, Row, table, kinds, register, reads, modifies, canRuntimeErr}
 use Rattle.rules.specs.Tables.{allb}
 use Rattle.laws.specs.Match.{agree}
 use Rattle.rules.specs.Replace.{Rule, stays, goes, turns, number, result, blank, rules, lookup}
@@ -34,6 +34,11 @@ all-at p (x ∷ l) (suc n) a h e = all-at p l n a (split-all p x l h).1 e
 
 -- ---- the rows
 
+-- the kinds are those of the row
+pub kinds-row : (o : ℕ) (r : Row) → some r ≡ get_elem? table o → kinds o ≡ some r.kinds
+unfolding kinds
+kinds-row o r e = rw (← e)
+
 -- whoever knows the row knows the kinds
 abbrev pub rowKinds : Option Row → Option (Kind × Kind × Kind)
 rowKinds none = none
@@ -43,6 +48,16 @@ pub told-both : (x : Option Row) (o : ℕ) → x ≡ get_elem? table o → (rowK
 unfolding kinds
 told-both none o e = (rw (← e), e)
 told-both (some r) o e = (rw (← e), e)
+
+-- so are the registers that are read, and the one that is modified
+module _ (i : Instruction) (r : Row) (e : some r ≡ get_elem? table i.op) where
+  pub reads-row : reads i ≡ map (register r i) r.reads
+  unfolding reads
+  reads-row = rw (← e)
+
+  pub modifies-row : modifies i ≡ elim r.modifies [ none ↦ none | some f ↦ some (register r i f) ]
+  unfolding modifies
+  modifies-row = rw (← e)
 
 -- an opcode is below 53
 pub opcode-lt : (o : ℕ) (k : Kind × Kind × Kind) → kinds o ≡ some k → o < 53
@@ -104,6 +119,29 @@ module _ (o : ℕ) (r : Row) (e : some r ≡ get_elem? table o) where
   pub modified-reg : (f : ℕ) → r.modifies ≡ some f → isReg (kindAt r f) ≡ true
   unfolding allb table
   modified-reg f m = rw m at (all-at (λ q. elim q.modifies [ none ↦ true | some f ↦ isReg (kindAt q f) ]) table o r refl e)
+
+-- ---- numbers that no opcode has
+
+above : (o k : ℕ) → k < o → eqb o k ≡ false
+above o k h = ne_eqb o k (λ e. omega arith)
+
+-- they cannot fail
+pub past-err : (o : ℕ) → 41 ≤ o → false ≡ canRuntimeErr o
+unfolding canRuntimeErr
+past-err o h = simp (above o 7 (omega arith), above o 26 (omega arith), above o 28 (omega arith), above o 39 (omega arith), above o 40 (omega arith))
+
+-- they have no rule
+past-list : (o : ℕ) (rs : List (ℕ × Rule)) → allb (λ r. ltb r.0 53) rs ≡ true → 53 ≤ o → stays ≡ lookup o rs
+unfolding lookup
+past-list o [] t h = refl
+past-list o (r ∷ rs) t h =
+    let s = split-all (λ r. ltb r.0 53) r rs t in
+    let below : r.0 < 53 = ltb-true _ _ s.0 in
+    rw (above o r.0 (omega arith), lookup) (past-list o rs s.1 h)
+
+pub past-rules : (o : ℕ) → 53 ≤ o → stays ≡ lookup o rules
+unfolding allb rules
+past-rules o h = past-list o rules refl h
 
 -- ---- an opcode that a rule turns to has 6 bits
 

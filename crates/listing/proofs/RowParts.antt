@@ -11,7 +11,7 @@ use Rattle.rules.specs.Constants.{mark}
 use Rattle.rules.specs.Word.{Run, wordIns, wordRun}
 use Rattle.rules.specs.Tables.{Counts, flag, kindOf, targetOf, successOf}
 use Rattle.rules.specs.Listing.{nat, row, refusal}
-use Rattle.laws.specs.Words.{wordRun-small}
+use Rattle.laws.proofs.Words.{wordRun-small}
 use Rattle.listing.specs.Rows.{countsRow, instrRow, sectionRow}
 use Rattle.text.specs.Numbers.{nums}
 

@@ -18,14 +18,14 @@ use Rattle.rules.specs.Preservation.{All, RegistersBelow}
 use Rattle.bounds.specs.Good.{CodeGood, GoodWhole}
 use Rattle.bounds.specs.Quiet.{shown-regs, cond-regs}
 use Rattle.bounds.specs.Room.{Room, roomOf, Ok}
-use Rattle.bounds.specs.Own.{Whole, whole-grows, annotate-made}
+use Rattle.bounds.proofs.Own.{Whole, whole-grows, annotate-made}
 use Rattle.bounds.specs.LimitsTree.{limits}
 use Rattle.machines.specs.Lowered.{lower-starts}
 use Rattle.machines.specs.FinishedCode.{lower-good}
-use Rattle.bounds.specs.Stay.{numbers-stay, strings-stay}
+use Rattle.bounds.proofs.Stay.{numbers-stay, strings-stay}
 use Rattle.laws.specs.Texts.{length-spans}
-use Rattle.bounds.specs.Estimate.{sections-length}
-use Rattle.bounds.specs.Bounds.{small}
+use Rattle.bounds.proofs.Estimate.{sections-length}
+use Rattle.bounds.proofs.Bounds.{small}
 use Rattle.machines.specs.Targets.{Aims, lower-aims}
 use Rattle.machines.specs.Shape.{lower-later}
 use Rattle.machines.specs.Texts.{annotate-short, spans-fit, names-fit}

@@ -29,7 +29,7 @@ use Rattle.tables.proofs.Change.{machineOf, change-ok}
 use Rattle.replace.specs.Pass.{numbersBy, stringsBy, numberOf, stringOf, sums, AddsAll, Plain, Ready}
 use Rattle.replace.proofs.Adding.{sums-nil, sums-cons}
 use Rattle.replace.proofs.Replaces.{replace-11}
-use Rattle.bounds.specs.Stay.{numbers-stay, strings-stay}
+use Rattle.bounds.proofs.Stay.{numbers-stay, strings-stay}
 use Rattle.machines.specs.Fits.{MachineFit, InTables, tables-fit}
 use Rattle.bounds.specs.Parsed.{refused≢ok}
 use Rattle.machines.specs.Back.{tables-back}

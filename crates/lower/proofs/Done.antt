@@ -18,8 +18,8 @@ use Rattle.rules.specs.Lowered.{Options, assemble, lowered}
 use Rattle.rules.specs.Operations.{put, write, sizeOf, estimate, holds, build, lower}
 use Rattle.replace.specs.Pass.{Rewrote}
 use Rattle.replace.proofs.Replaces.{replaced-counts, replaced-words}
-use Rattle.bounds.specs.Stay.{numbers-stay}
-use Rattle.bounds.specs.Estimate.{code-length, replaced-len, WithinEstimate, estimated}
+use Rattle.bounds.proofs.Stay.{numbers-stay}
+use Rattle.bounds.proofs.Estimate.{code-length, replaced-len, WithinEstimate, estimated}
 use Rattle.laws.specs.Sections.{words-length, replaced-length}
 use Rattle.program.specs.Program.{Laid}
 use Rattle.lower.proofs.Words.{stays, then-zeros}

@@ -21,8 +21,9 @@ use Rattle.rules.specs.Lowered.{Options, defaults, assemble}
 use Rattle.rules.specs.Operations.{sizeOf, estimate, holds, build, lower}
 use Rattle.bounds.specs.Parsed.{parsed}
 use Rattle.bounds.specs.LimitsTree.{limits}
-use Rattle.bounds.specs.Estimate.{estimated}
-use Rattle.bounds.specs.Bounds.{small, few-lines}
+use Rattle.bounds.proofs.Estimate.{estimated}
+use Rattle.bounds.proofs.Bounds.{small}
+use Rattle.bounds.specs.Bounds.{few-lines}
 use Rattle.laws.specs.Lists.{both}
 use Rattle.nodes.proofs.Width.{four}
 use Rattle.replace.specs.Pass.{Ready, Rewrote}

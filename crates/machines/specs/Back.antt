@@ -9,14 +9,14 @@ use Rattle.rules.specs.Tree.{Tree}
 use Rattle.rules.specs.Parse.{parse}
 use Rattle.rules.specs.Instr.{Instruction, kinds}
 use Rattle.laws.specs.Lists.{all-left, all-right}
-use Rattle.laws.specs.SectionWord.{flag-back, next-back, fields-back}
-use Rattle.laws.specs.Words as Words
+use Rattle.laws.proofs.SectionWord.{flag-back, next-back, fields-back}
+use Rattle.laws.proofs.Words as Words
 use Rattle.rules.specs.Word.{insWord, wordIns, Run, Span, spanWord, wordSpan}
 use Rattle.rules.specs.Machine.{SectionOrLine, SectionCode, Machine}
 use Rattle.rules.specs.Tables.{Tables, Counts, readSections, decode, successOf, flag, sectionRun, runWords, allCode, encode, countsOf}
 use Rattle.rules.specs.Operations.{sizeOf, estimate, holds, put, write, build}
 use Rattle.rules.specs.Preservation.{All}
-use Rattle.bounds.specs.Estimate.{codeLen, code-length}
+use Rattle.bounds.proofs.Estimate.{codeLen, code-length}
 use Rattle.bounds.specs.Parsed.{refused≢ok}
 use Rattle.machines.specs.Fits.{Held, Counted, SectFit, SpanFit, AllAt, MachineFit, InTables, tables-fit, ins-small, next-small}
 use Rattle.laws.specs.Sections.{words-length}

@@ -10,14 +10,16 @@ use Rattle.std.proofs.lemmas.List.{length-map}
 use Rattle.rules.specs.Bits.{isOne}
 use Rattle.rules.specs.Instr.{Row, Instruction, Kind, unused, num, str, val, place, table, kinds}
 use Rattle.laws.specs.Table.{opcode-bits}
-use Rattle.laws.specs.Words.{InsSmall, ins-back, ins-zeros}
-use Rattle.laws.specs.SectionWord.{NextSmall, flag-back, next-back, fields-back, zeros-back}
+use Rattle.laws.specs.Words.{InsSmall}
+use Rattle.laws.proofs.Words.{ins-back, ins-zeros}
+use Rattle.laws.specs.SectionWord.{NextSmall}
+use Rattle.laws.proofs.SectionWord.{flag-back, next-back, fields-back, zeros-back}
 use Rattle.rules.specs.Word.{unpack, insWord, insSpare, Run, runWord, wordRun, runSpare, Span, spanWord, wordSpan, spanSpare}
 use Rattle.rules.specs.Constants.{stringLayout, mostCount, mostLines, mostChars}
 use Rattle.rules.specs.Machine.{SectionOrLine, unfixed, section, line, SectionCode, isFixed, Machine}
 use Rattle.rules.specs.Tables.{Tables, Counts, allb, fieldFits, insFits, successOf, successFits, startFits, runsFit, spanFits, nameFits, countFits, countsFit, wordsFit, fits, flag, sectionRun, runWords, allCode, encode, countsOf}
 use Rattle.rules.specs.Preservation.{All, FieldBelow}
-use Rattle.bounds.specs.Estimate.{codeLen, code-length}
+use Rattle.bounds.proofs.Estimate.{codeLen, code-length}
 use Rattle.laws.specs.Lists.{all-true}
 use Rattle.laws.specs.Sections.{words-length}
 use Rattle.std.specs.Cmp.Derive.{both_true}

@@ -15,9 +15,9 @@ use Rattle.rules.specs.Lowered.{Options, lowered, finished}
 use Rattle.rules.specs.Operations.{sizeOf, estimate, fixedHere, jumpsFixed, cleanIn, allAhead, combineIn}
 use Rattle.machines.specs.Ranks.{rank-low}
 use Rattle.machines.specs.Lowered.{lower-fixed}
-use Rattle.bounds.specs.Stay.{lowered-sections}
+use Rattle.bounds.proofs.Stay.{lowered-sections}
 use Rattle.bounds.specs.LimitsTree.{limits}
-use Rattle.bounds.specs.Estimate.{codeLen, code-length, WithinEstimate, estimated}
+use Rattle.bounds.proofs.Estimate.{codeLen, code-length, WithinEstimate, estimated}
 use Rattle.machines.specs.TreeFits.{Sizes, pos, ready, finish-counts, lines-are}
 use Rattle.machines.specs.Accepts.{all-fixed, clean-test}
 use Rattle.machines.specs.Ahead.{all-test, clean-ahead}

@@ -25,12 +25,13 @@ use Rattle.joins.specs.Joins.{first-in, second-in, length-join}
 use Rattle.machines.specs.Lowered.{lower-fixed, lower-starts}
 use Rattle.machines.specs.FinishedCode.{lower-good, clean-good, combined-good}
 use Rattle.bounds.specs.Room.{Room, roomOf, NameBelow}
-use Rattle.bounds.specs.Own.{annotate-made}
-use Rattle.bounds.specs.Stay.{strings-stay, numbers-stay, good-for, lowered-sections, script-lines}
+use Rattle.bounds.proofs.Own.{annotate-made}
+use Rattle.bounds.proofs.Stay.{strings-stay, numbers-stay, good-for, lowered-sections, script-lines}
 use Rattle.laws.specs.Texts.{length-spans}
 use Rattle.bounds.specs.LimitsTree.{Limits, limits}
-use Rattle.bounds.specs.Estimate.{codeLen, code-length, sections-length}
-use Rattle.bounds.specs.Bounds.{Small, small}
+use Rattle.bounds.proofs.Estimate.{codeLen, code-length, sections-length}
+use Rattle.bounds.specs.Bounds.{Small}
+use Rattle.bounds.proofs.Bounds.{small}
 use Rattle.machines.specs.Fits.{Counted, SpanFit, MachineFit, encoded-fits}
 use Rattle.machines.specs.Targets.{Aims, lower-aims, clean-aims, clean-length}
 use Rattle.machines.specs.Shape.{combine-aims, combine-inner, lower-later, clean-inner, keep-some}

@@ -19,11 +19,12 @@ use Rattle.rules.specs.Annotate.{annotate}
 use Rattle.rules.specs.Replace.{replaced}
 use Rattle.rules.specs.Clean.{cleaned}
 use Rattle.rules.specs.Combine.{combined}
-use Rattle.bounds.specs.Stay.{strings-stay}
+use Rattle.bounds.proofs.Stay.{strings-stay}
 use Rattle.laws.specs.Texts.{length-spans}
 use Rattle.bounds.specs.Parsed.{refused≢ok}
-use Rattle.bounds.specs.Bounds.{small}
-use Rattle.walks.specs.Calls.{Finishes, finishes}
+use Rattle.bounds.proofs.Bounds.{small}
+use Rattle.walks.specs.Calls.{Finishes}
+use Rattle.walks.proofs.Calls.{finishes}
 use Rattle.tables.proofs.Sound.{sound}
 use Rattle.tables.proofs.Change.{machineOf}
 use Rattle.text.specs.Wrote.{Room, Wrote, Prints}

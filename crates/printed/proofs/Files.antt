@@ -17,8 +17,8 @@ use Rattle.rules.specs.Lowered.{defaults, finished}
 use Rattle.rules.specs.Operations.{sizeOf, estimate, holds}
 use Rattle.rules.specs.Listing.{listing, refusal, fitsFinlist, finlist}
 use Rattle.bounds.specs.LimitsTree.{limits}
-use Rattle.bounds.specs.Estimate.{estimated}
-use Rattle.bounds.specs.Bounds.{small}
+use Rattle.bounds.proofs.Estimate.{estimated}
+use Rattle.bounds.proofs.Bounds.{small}
 use Rattle.printed.proofs.Lengths.{mostCharacters}
 
 pub too-long : (s : List ℕ) → finlistBytes < length s → refusal Refusal.tooLong ≡ finlist s

@@ -17,8 +17,8 @@ use Rattle.rules.specs.Machine.{SectionCode}
 use Rattle.rules.specs.Tables.{Tables, Counts, flag, kindOf, targetOf, successOf, readSections, fits}
 use Rattle.rules.specs.Listing.{digits, nat, int, hex, hexText, row, rowsN, rowsT, rowsV, rowsI, rowsS, listing, refusal}
 use Rattle.rules.specs.Lowered.{spans, texts}
-use Rattle.laws.specs.Words.{ins-small, wordRun-small}
-use Rattle.laws.specs.SectionWord.{flag-lt, kind-lt}
+use Rattle.laws.proofs.Words.{ins-small, wordRun-small}
+use Rattle.laws.proofs.SectionWord.{flag-lt, kind-lt}
 use Rattle.tables.specs.Runs.{countOf, sectionOf, held}
 use Rattle.tables.proofs.Sound.{sound}
 use Rattle.tables.proofs.Read.{read-nil, read-cons, count-is}

@@ -18,7 +18,7 @@ use Rattle.rules.specs.Machine.{SectionCode, Machine}
 use Rattle.rules.specs.Tables.{Tables, Counts, readSections, fits, countsOf}
 use Rattle.rules.specs.Replace.{ruleOf, Regs, replaceIns, replaceCode, replaceSections, replaced}
 use Rattle.rules.specs.Operations.{write, slots, replaceIn, replace}
-use Rattle.laws.specs.Words.{ins-small}
+use Rattle.laws.proofs.Words.{ins-small}
 use Rattle.laws.specs.Lists.{both}
 use Rattle.words.specs.Told.{replacedOf, replacedBy}
 use Rattle.words.proofs.Rules.{replaced-is}

@@ -11,7 +11,7 @@ use Rattle.rules.specs.Instr.{Instruction, ins₁, ins₂}
 use Rattle.rules.specs.Opcode.{CopyNum, CopyStr}
 use Rattle.rules.specs.Word.{Span, wordIns, insWord, wordSpan, spanWord}
 use Rattle.rules.specs.Replace.{Rule, stays, goes, turns, number, result, blank, ruleOf, Regs, replaceBy, replaceIns}
-use Rattle.laws.specs.Words.{ins-small, span-back}
+use Rattle.laws.proofs.Words.{ins-small, span-back}
 use Rattle.std.proofs.lemmas.List.{map-append}
 use Rattle.words.specs.Told.{replacedOf, replacedBy}
 use Rattle.words.proofs.Rules.{replaced-is}

@@ -17,7 +17,7 @@ use Rattle.rules.specs.Machine.{SectionCode, Machine}
 use Rattle.rules.specs.Tables.{Tables, Counts, allb, spanFits, fits, decode, runWords, allCode, countsOf}
 use Rattle.rules.specs.Operations.{put, write, change}
 use Rattle.laws.specs.Lists.{take-below}
-use Rattle.laws.specs.Words.{span-again}
+use Rattle.laws.proofs.Words.{span-again}
 use Rattle.tables.specs.Runs.{held}
 use Rattle.std.proofs.lemmas.Bool.{false≢true}
 use Rattle.tables.proofs.Sound.{Sound}

@@ -2,7 +2,7 @@
 use Prim.Native.Nat.{ℕ, ◌<◌}
 use Rattle.rules.specs.Word.{wordIns}
 use Rattle.laws.specs.Table.{opcode-bits}
-use Rattle.laws.specs.Words.{ins-small}
+use Rattle.laws.proofs.Words.{ins-small}
 
 -- an opcode that was read has 6 bits
 pub op-lt : (w : ℕ) → (wordIns w).op < 64

@@ -8,7 +8,8 @@ use lib.Pow.{pow_pos}
 use Rattle.rules.specs.Instr.{Instruction, ins₁}
 use Rattle.rules.specs.Replace.{Rule, stays, goes, turns, number, result, blank, ruleFor, ruleOf, Regs, replaceBy, replaceIns}
 use Rattle.laws.specs.Table.{turns-lt}
-use Rattle.laws.specs.Words.{InsSmall, ins-back}
+use Rattle.laws.specs.Words.{InsSmall}
+use Rattle.laws.proofs.Words.{ins-back}
 use Rattle.words.specs.Told.{replacedOf, replacedBy}
 
 -- an opcode that a rule turns to has 6 bits

@@ -1,8 +1,8 @@
 -- A section's word, over plain variables. Assumes nothing.
 use Prim.Native.Nat.{ℕ, ◌<◌}
 use Rattle.rules.specs.Word.{wordRun}
-use Rattle.laws.specs.SectionWord.{flag-lt, kind-lt}
-use Rattle.laws.specs.Words.{wordRun-small}
+use Rattle.laws.proofs.SectionWord.{flag-lt, kind-lt}
+use Rattle.laws.proofs.Words.{wordRun-small}
 
 -- the fields of one bit
 pub start-lt : (w : ℕ) → (wordRun w).lineStart < 2

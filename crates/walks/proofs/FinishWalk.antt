@@ -24,6 +24,8 @@ use Rattle.machines.specs.Ranks.{clean-ready}
 use Rattle.rules.specs.Replace.{Regs, replaceSections}
 use Rattle.rules.specs.Reading.{repScript}
 use Rattle.bounds.specs.ReplaceScript.{length-rep, lower-rep}
+use Rattle.walks.specs.Codegen.{codegen}
+use Rattle.walks.proofs.CodegenProof.{codegen-is}
 use Rattle.walks.specs.Count.{agree}
 use Rattle.machines.specs.FinishedCode.{everywhere, getD-good, finish-good}
 use Rattle.walks.specs.Sides.{safe-enters, run-prune, within-good}
@@ -102,6 +104,11 @@ module _ (t : Script) (pos : 0 < length t) where
         behindGoto = record { firsts = agree (map prune t) (omega (arith, length-map t prune)) os (walkSections (finish t) (length t) os) (same-pruned os); stops = (same-pruned os).stops };
         noPair = finished;
       }
+
+  -- The same of the machine that codegen.rs's steps make, cleaned and combined.
+  pub preservation-codegen : (os : List ℕ) → PreservesScript (length t) t (combineSections (cleanSections (codegen t))) os
+  unfolding finish
+  preservation-codegen os = subst (λ (m : List SectionCode). PreservesScript (length t) t (combineSections (cleanSections m)) os) (sym (codegen-is t)) (preservation os)
 
 -- With replacement between: the machine is yogi's (codegen, replacement, cleaning, combining), and the script that is read is the script with
 -- its instructions replaced by the same rules, in the same order, and with nothing out of a machine.

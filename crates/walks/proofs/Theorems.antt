@@ -23,20 +23,22 @@ use Rattle.rules.specs.Preservation.{SameWalk, Preserves}
 use Rattle.walks.specs.Claim.{Alike}
 use Rattle.walks.specs.Walks.{same-walk}
 use Rattle.walks.specs.Codegen.{codegen}
-use Rattle.walks.specs.CodegenProof.{codegen-is}
+use Rattle.walks.proofs.CodegenProof.{codegen-is}
 use Rattle.joins.specs.Along.{Ready, combine-ends}
 use Rattle.joins.specs.Pairs.{Pair}
 use Rattle.walks.specs.CombineWalk.{join-keeps, combine-keeps}
 use Rattle.joins.specs.Joins.{length-join}
-use Rattle.walks.specs.FinishWalk.{low-same, clean-is}
+use Rattle.walks.proofs.FinishWalk.{low-same, clean-is}
 use Rattle.bounds.specs.LimitsTree.{limits}
-use Rattle.bounds.specs.Estimate.{WithinEstimate, estimated}
-use Rattle.bounds.specs.Bounds.{Small, small}
+use Rattle.bounds.proofs.Estimate.{WithinEstimate, estimated}
+use Rattle.bounds.specs.Bounds.{Small}
+use Rattle.bounds.proofs.Bounds.{small}
 use Rattle.machines.specs.TreeFits.{pos, lines-are, lowered-fits, cleaned-fits, finished-fits}
-use Rattle.bounds.specs.Stay as Stay
-use Rattle.walks.specs.PreservationProof as Proof
+use Rattle.bounds.proofs.Stay as Stay
+use Rattle.walks.proofs.PreservationProof as Proof
 use Rattle.machines.specs.Passes as Passes
-use Rattle.walks.specs.Calls.{Finishes, finishes}
+use Rattle.walks.specs.Calls.{Finishes}
+use Rattle.walks.proofs.Calls.{finishes}
 use Rattle.walks.specs.Handed.{Combines, combines}
 
 -- ---- joins, of any machine in which every section is fixed and the lines' sections are line starts

@@ -21,12 +21,12 @@ use Rattle.rules.specs.Preservation.{All, Preserves, RegistersBelow, GotoBelow}
 use Rattle.walks.specs.Claim.{PreservesScript}
 use Rattle.bounds.specs.Good.{SectGood, NextGood, GoodWhole}
 use Rattle.bounds.specs.Room.{Room, roomOf}
-use Rattle.bounds.specs.Own.{Whole, whole-grows, annotate-made}
+use Rattle.bounds.proofs.Own.{Whole, whole-grows, annotate-made}
 use Rattle.bounds.specs.Quiet.{script-good, tree-good}
-use Rattle.walks.specs.FinishWalk.{preservation-replaced}
+use Rattle.walks.proofs.FinishWalk.{preservation-replaced}
 use Rattle.laws.specs.Lists.{all-map}
 use Rattle.laws.specs.Texts.{length-spans}
-use Rattle.bounds.specs.Stay as Stay
+use Rattle.bounds.proofs.Stay as Stay
 use Rattle.rules.specs.Bits.{ok}
 use Rattle.rules.specs.Parse.{parse}
 use Rattle.bounds.specs.Parsed.{some-line}

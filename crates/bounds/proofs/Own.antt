@@ -17,7 +17,8 @@ use Rattle.rules.specs.Operators.{getVariable, copyValreg, makeArithBinop, codeg
 use Rattle.rules.specs.Annotate.{codegenFromExpr, store, assignBy, codegenFromAssign, condition, lineNumber, annotateStmts, annotateLines, fresh, annotate}
 use Rattle.rules.specs.Preservation.{All}
 use Rattle.bounds.specs.Room.{Ok, ok₂, Room, code-grows, roomOf, NameBelow, Fine, Cost, cost, plus, Went, seq, within, room, went-here, went-emit, went-num, went-str}
-use Rattle.bounds.specs.Steps.{MadeVal, MadeNum, value-made, copy-made, copy-new, truthy-made, numberify-made, valueify-made, numbered-made, arith-made, binary-made, unary-made, incdec-made, last}
+use Rattle.bounds.specs.Steps.{MadeVal, MadeNum, value-made, copy-made, copy-new, truthy-made, numberify-made, valueify-made, numbered-made, last}
+use Rattle.bounds.proofs.Operators.{arith-made, binary-made, unary-made, incdec-made}
 
 -- ---- expressions
 

@@ -1,0 +1,5 @@
+pub mod CodegenProof
+pub mod FinishWalk
+pub mod PreservationProof
+pub mod Calls
+pub mod Theorems
