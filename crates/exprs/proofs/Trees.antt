@@ -1,10 +1,10 @@
 -- What a node's word says, field by field, of the expression that is held there; and costs. Assumes nothing.
 use mathlib.Core.Path.{◌≡◌, refl, sym, ap, ◌∙◌}
 use mathlib.Core.List.{List}
-use Prim.Native.Nat.{ℕ, ◌+◌, ◌*◌, ◌≤◌, ◌<◌}
+use Prim.Native.Nat.{ℕ, ◌+◌, ◌*◌, ◌≤◌, ◌<◌, ◌^◌}
 use native.Mathlib.Omega.{arith}
 use lib.ListN.{length, get_or}
-use Rattle.rules.specs.Constants.{mostBytes, mostNames, numberBits, charBits, byteBits, instrsANode, mostChars}
+use Rattle.rules.specs.Constants.{mostBytes, nameBits, numberBits, charBits, byteBits, instrsANode, mostChars}
 use Rattle.rules.specs.Bits.{spelled, isOne}
 use Rattle.rules.specs.Tree.{Binop, Unop, Expr, binop, unop, ident, number, string, ofExpr, node, both, emptyTally}
 use Rattle.rules.specs.Tree.{And, Or, Add, Sub, Mul, Div, Mod, Pow, Eq, Ne, Le, Lt, Ge, Gt}
@@ -67,7 +67,7 @@ expr-most (string t) = omega arith
 -- ---- fields
 
 -- where the expression ends
-pub last-held : {t s : List ℕ} {m i j : ℕ} {e : Expr} → length s ≤ mostBytes → m ≤ mostNames → HoldsE t s m i e j → lastIn (get_or t i 0) ≡ j
+pub last-held : {t s : List ℕ} {m i j : ℕ} {e : Expr} → length s ≤ mostBytes → m ≤ 2 ^ nameBits → HoldsE t s m i e j → lastIn (get_or t i 0) ≡ j
 unfolding binops unops
 last-held a c (at-binop op o p w q l r) = let y = op-small binops op p in (unpacked _ _ _ _ _ _ _ (omega arith) w).last-is
 last-held a c (at-unop op o p w q r) = let y = op-small unops op p in (unpacked _ _ _ _ _ _ _ (omega arith) w).last-is
@@ -93,7 +93,7 @@ begins p h = rw p at h
 pub ends : {t s : List ℕ} {m i j j' : ℕ} {e : Expr} → j ≡ j' → HoldsE t s m i e j → HoldsE t s m i e j'
 ends p h = rw p at h
 
-pub binop-at : {t s : List ℕ} {m i j : ℕ} {e : Expr} → length s ≤ mostBytes → m ≤ mostNames → HoldsE t s m i e j → kindIn (get_or t i 0) ≡ binopKind → BinopAt t s m i e j
+pub binop-at : {t s : List ℕ} {m i j : ℕ} {e : Expr} → length s ≤ mostBytes → m ≤ 2 ^ nameBits → HoldsE t s m i e j → kindIn (get_or t i 0) ≡ binopKind → BinopAt t s m i e j
 unfolding binops
 binop-at {t} {i = i} a c h k =
     let b = is-binop h k in
@@ -142,7 +142,7 @@ pub record IncdecAt (w m : ℕ) (e : Expr) : Type 0 where
   pub is : e ≡ Expr.incdec (isOne (opIn w)) (nameIn w)
   pub known : nameIn w < m
 
-pub incdec-at : {t s : List ℕ} {m i j w : ℕ} {e : Expr} → m ≤ mostNames → HoldsE t s m i e j → get_or t i 0 ≡ w → kindIn w ≡ incdecKind → IncdecAt w m e
+pub incdec-at : {t s : List ℕ} {m i j w : ℕ} {e : Expr} → m ≤ 2 ^ nameBits → HoldsE t s m i e j → get_or t i 0 ≡ w → kindIn w ≡ incdecKind → IncdecAt w m e
 incdec-at c h q k =
     let b = is-incdec h (rw q k) in
     let g = b.flag in
@@ -153,7 +153,7 @@ pub record IdentAt (w m : ℕ) (e : Expr) : Type 0 where
   pub is : e ≡ ident (nameIn w)
   pub known : nameIn w < m
 
-pub ident-at : {t s : List ℕ} {m i j w : ℕ} {e : Expr} → m ≤ mostNames → HoldsE t s m i e j → get_or t i 0 ≡ w → kindIn w ≡ identKind → IdentAt w m e
+pub ident-at : {t s : List ℕ} {m i j w : ℕ} {e : Expr} → m ≤ 2 ^ nameBits → HoldsE t s m i e j → get_or t i 0 ≡ w → kindIn w ≡ identKind → IdentAt w m e
 ident-at c h q k =
     let b = is-ident h (rw q k) in
     let g = b.known in

@@ -1,6 +1,6 @@
 -- What lowering an expression of the node table asks and does.
-use Rattle.std.specs.Prelude.{◌≡◌, List, ℕ, ◌+◌, ◌*◌, ◌≤◌, ◌<◌, length, get_or}
-use Rattle.rules.specs.Constants.{mostBytes, mostNames, numberBits, charBits, byteBits, instrsANode, numbersANode, mostCount, mostChars}
+use Rattle.std.specs.Prelude.{◌≡◌, List, ℕ, ◌+◌, ◌*◌, ◌^◌, ◌≤◌, ◌<◌, length, get_or}
+use Rattle.rules.specs.Constants.{mostBytes, nameBits, numberBits, charBits, byteBits, instrsANode, numbersANode, mostCount, mostChars}
 use Rattle.rules.specs.Tree.{Expr, binop, unop, ident, number, string, Tally, ofExpr}
 use Rattle.rules.specs.CodegenData.{Lower}
 use Rattle.rules.specs.Annotate.{codegenFromExpr}
@@ -36,7 +36,7 @@ pub record Ready (s t : List ℕ) (i : ℕ) (c : Counters) (il nl sl pl ml : ℕ
   pub held : HoldsE t s names i tree last
   pub inside : last ≤ length t
   pub short : length s ≤ mostBytes
-  pub few : names ≤ mostNames
+  pub few : names ≤ 2 ^ nameBits
   pub fits : Fits (ofExpr tree) names c il nl sl pl ml
 
 -- the same of a word without operands
@@ -51,7 +51,7 @@ pub record LeafReady (s : List ℕ) (w : ℕ) (c : Counters) (il nl sl pl ml : �
   pub no-binop : kindIn w ≡ binopKind → ⊥
   pub no-unop : kindIn w ≡ unopKind → ⊥
   pub short : length s ≤ mostBytes
-  pub few : names ≤ mostNames
+  pub few : names ≤ 2 ^ nameBits
   pub fits : Fits (ofExpr tree) names c il nl sl pl ml
 
 -- what the expression e takes, and i instructions, n numbers and v values more

@@ -1,9 +1,9 @@
 // Expressions without operands: numbers and texts are read again from the file, where their nodes say.
 //
 // Each function is shown to do what the step of `rules` does. A caller owes bits that are there (`NumberAt`, `TextAt`) and room.
-ghost use Rattle.std.specs.Prelude.{◌≡◌, List, ℕ, ◌+◌, ◌*◌, ◌≤◌, ◌<◌, length, get_or};
+ghost use Rattle.std.specs.Prelude.{◌≡◌, List, ℕ, ◌+◌, ◌*◌, ◌^◌, ◌≤◌, ◌<◌, length, get_or};
 ghost use Rattle.std.proofs.lemmas.List.Edits.{sets};
-ghost use Rattle.rules.specs.Constants.{mostNames, numberBits, mostCount};
+ghost use Rattle.rules.specs.Constants.{nameBits, numberBits, mostCount};
 ghost use Rattle.rules.specs.Bits.{spelled};
 ghost use Rattle.rules.specs.Opcode as Op;
 ghost use Rattle.rules.specs.Tree.{Expr};
@@ -111,7 +111,7 @@ pub fn codegen_from_leaf(
     c: Counters,
 ) -> GotVal
     requires { LeafReady s.now w c (length instrs.old) (length numbers.old) (length strings.old) (length pool.old) (length names.old) }
-    ensures { (u : List ℕ) (i m : ℕ) (e : Expr) (j : ℕ) → m ≤ mostNames → get_or u i 0 ≡ w → HoldsE u s.now m i e j → Lowers m e c (lent instrs.old numbers.old strings.old pool.old names.old) (lent instrs.new numbers.new strings.new pool.new names.new) result.reg.0 result.next }
+    ensures { (u : List ℕ) (i m : ℕ) (e : Expr) (j : ℕ) → m ≤ 2 ^ nameBits → get_or u i 0 ≡ w → HoldsE u s.now m i e j → Lowers m e c (lent instrs.old numbers.old strings.old pool.old names.old) (lent instrs.new numbers.new strings.new pool.new names.new) result.reg.0 result.next }
 {
     let kind = w % KINDS;
     let x = (w / NAME % NAMES) as usize;

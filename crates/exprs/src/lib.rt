@@ -6,8 +6,8 @@
 
 pub mod leaves;
 
-ghost use Rattle.std.specs.Prelude.{ℕ, ◌≤◌, length};
-ghost use Rattle.rules.specs.Constants.{mostNames};
+ghost use Rattle.std.specs.Prelude.{ℕ, ◌≤◌, length, ◌^◌};
+ghost use Rattle.rules.specs.Constants.{nameBits};
 ghost use Rattle.rules.specs.Tree.{Expr};
 ghost use Rattle.nodes.specs.Holds.{HoldsE};
 ghost use Rattle.codegen.specs.Does.{lent};
@@ -33,7 +33,7 @@ pub fn codegen_from_expr(
     c: Counters,
 ) -> GotVal
     requires { Ready s.now nodes.now i c (length instrs.old) (length numbers.old) (length strings.old) (length pool.old) (length names.old) }
-    ensures { (m : ℕ) (e : Expr) (j : ℕ) → m ≤ mostNames → HoldsE nodes.now s.now m i e j → Lowers m e c (lent instrs.old numbers.old strings.old pool.old names.old) (lent instrs.new numbers.new strings.new pool.new names.new) result.reg.0 result.next }
+    ensures { (m : ℕ) (e : Expr) (j : ℕ) → m ≤ 2 ^ nameBits → HoldsE nodes.now s.now m i e j → Lowers m e c (lent instrs.old numbers.old strings.old pool.old names.old) (lent instrs.new numbers.new strings.new pool.new names.new) result.reg.0 result.next }
 {
     let w = nodes[i];
     let kind = w % KINDS;

@@ -2,11 +2,11 @@
 use mathlib.Core.Path.{◌≡◌, refl, sym, ap, ◌∙◌}
 use mathlib.Core.Bool.{Bool, false}
 use mathlib.Core.List.{List}
-use Prim.Native.Nat.{ℕ, zero, suc, ◌+◌, ◌-◌, ◌≤◌, ◌<◌}
+use Prim.Native.Nat.{ℕ, zero, suc, ◌+◌, ◌-◌, ◌≤◌, ◌<◌, ◌^◌}
 use native.Mathlib.Omega.{arith}
 use native.Mathlib.Nat.{add-zero}
 use lib.ListN.{length, get_or}
-use Rattle.rules.specs.Constants.{mostBytes, mostNames}
+use Rattle.rules.specs.Constants.{mostBytes, nameBits}
 use Rattle.rules.specs.Tree.{Expr, Gt, Atan, Binop, Unop, Block, end, ite, assign}
 use Rattle.rules.specs.Parse.{binops, unops}
 use Rattle.nodes.specs.Words.{binopKind, unopKind, incdecKind, identKind, numberKind, stringKind, gotoKind, stepKind, assignKind, iteKind, kindIn, lastIn, nameIn, opIn}
@@ -72,7 +72,7 @@ cost-of : (w k o a c : ℕ) → kindIn w ≡ k → opIn w ≡ o → nameIn w ≡
 unfolding nodeCost
 cost-of w k o a c p q r e = rw (p, q, r) e
 
-pub expr-costs : {t s : List ℕ} {m i j : ℕ} {e : Expr} → length s ≤ mostBytes → m ≤ mostNames → HoldsE t s m i e j → costs t i (j - i) ≡ exprCost e
+pub expr-costs : {t s : List ℕ} {m i j : ℕ} {e : Expr} → length s ≤ mostBytes → m ≤ 2 ^ nameBits → HoldsE t s m i e j → costs t i (j - i) ≡ exprCost e
 unfolding binops unops exprCost kindCost
 expr-costs {t} {i = i} a c (at-binop {h = h} {j = j} {k = k} op o p w q l r) =
     let y = op-small binops op p in
@@ -125,7 +125,7 @@ own-only (ite e a b xs) = refl
 own-only (Block.incdec i x xs) = refl
 own-only (assign x o e xs) = refl
 
-module _ {t s : List ℕ} {m i z : ℕ} {x : Block} (a : length s ≤ mostBytes) (c : m ≤ mostNames) (h : HoldsB t s m 1 i x z) where
+module _ {t s : List ℕ} {m i z : ℕ} {x : Block} (a : length s ≤ mostBytes) (c : m ≤ 2 ^ nameBits) (h : HoldsB t s m 1 i x z) where
   goto-cost : kindIn (get_or t i 0) ≡ gotoKind → costs t i (z - i) ≡ ownCost x
   unfolding ownCost kindCost
   goto-cost k =
@@ -175,8 +175,8 @@ module _ {t s : List ℕ} {m i z : ℕ} {x : Block} (a : length s ≤ mostBytes)
       go (assign y o v xs) e n = assign-cost (sym e)
 
 -- the whole list's first statement
-pub own-other : {t s : List ℕ} {m n i z : ℕ} {x : Block} → length s ≤ mostBytes → m ≤ mostNames → 0 < n → HoldsB t s m n i x z → (kindIn (get_or t i 0) ≡ iteKind → ⊥) → costs t i (lastIn (get_or t i 0) - i) ≡ ownCost x
+pub own-other : {t s : List ℕ} {m n i z : ℕ} {x : Block} → length s ≤ mostBytes → m ≤ 2 ^ nameBits → 0 < n → HoldsB t s m n i x z → (kindIn (get_or t i 0) ≡ iteKind → ⊥) → costs t i (lastIn (get_or t i 0) - i) ≡ ownCost x
 own-other {x = x} a c p h k = let s = split a c p h in by-kind a c s.head k (kind-held (omega arith) s.head) ∙ own-only x
 
-pub own-ite : {t s : List ℕ} {m n i z : ℕ} {x : Block} → length s ≤ mostBytes → m ≤ mostNames → 0 < n → HoldsB t s m n i x z → kindIn (get_or t i 0) ≡ iteKind → costs t i (lastIn (get_or t (i + 1) 0) - i) ≡ ownCost x
+pub own-ite : {t s : List ℕ} {m n i z : ℕ} {x : Block} → length s ≤ mostBytes → m ≤ 2 ^ nameBits → 0 < n → HoldsB t s m n i x z → kindIn (get_or t i 0) ≡ iteKind → costs t i (lastIn (get_or t (i + 1) 0) - i) ≡ ownCost x
 own-ite {x = x} a c p h k = let s = split a c p h in ite-cost a c s.head k ∙ own-only x

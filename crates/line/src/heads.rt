@@ -2,9 +2,9 @@
 //
 // Each function is shown equal to a definition of specs/Costs; the own instructions of a statement are as many as lowering emits (`ownCost` of
 // `stmts`). A caller owes operators of 4 bits and a range within the table.
-ghost use Rattle.std.specs.Prelude.{◌≡◌, List, ℕ, ◌-◌, ◌≤◌, ◌<◌, length, get_or};
+ghost use Rattle.std.specs.Prelude.{◌≡◌, List, ℕ, ◌-◌, ◌≤◌, ◌<◌, length, get_or, ◌^◌};
 ghost use Rattle.rules.specs.Tree.{Gt, Atan, PowTo, Block};
-ghost use Rattle.rules.specs.Constants.{mostBytes, mostNames, mostNodes};
+ghost use Rattle.rules.specs.Constants.{mostBytes, nameBits, mostNodes};
 ghost use Rattle.nodes.specs.Holds.{HoldsB};
 ghost use Rattle.rules.specs.Parse.{binops, unops, assignops};
 ghost use Rattle.codegen.specs.Costs.{binopCost, unopCost};
@@ -116,7 +116,7 @@ pub fn sum_costs(nodes: &[u64], i: usize, end: usize) -> usize
 // Of the first statement of the list at node i, without the lists that it holds: an Ite's condition ends where its first node says.
 pub fn own_cost(nodes: &[u64], i: usize) -> usize
     requires { SomeAt nodes.now i }
-    ensures { (s : List ℕ) (m n : ℕ) (x : Block) (z : ℕ) → length s ≤ mostBytes → m ≤ mostNames → 0 < n → HoldsB nodes.now s m n i x z → result ≡ ownCost x }
+    ensures { (s : List ℕ) (m n : ℕ) (x : Block) (z : ℕ) → length s ≤ mostBytes → m ≤ 2 ^ nameBits → 0 < n → HoldsB nodes.now s m n i x z → result ≡ ownCost x }
 {
     let w = nodes[i];
     if w % KINDS == ITE {

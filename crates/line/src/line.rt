@@ -3,8 +3,8 @@
 //
 // `codegen_from_line` is shown to make a line's sections as `headOf` and `tailOf` of `rules` part them (`LineDone`). A caller owes the node table
 // and room.
-ghost use Rattle.std.specs.Prelude.{◌≡◌, ℕ, ◌≤◌, length};
-ghost use Rattle.rules.specs.Constants.{mostNames};
+ghost use Rattle.std.specs.Prelude.{◌≡◌, ℕ, ◌≤◌, length, ◌^◌};
+ghost use Rattle.rules.specs.Constants.{nameBits};
 ghost use Rattle.rules.specs.Tree.{Block};
 ghost use Rattle.nodes.specs.Holds.{HoldsB};
 ghost use Rattle.codegen.specs.Does.{lent};
@@ -54,7 +54,7 @@ pub fn codegen_from_line(
     c: Counters,
 ) -> LineEnd
     requires { LineReady s.now nodes.now i count depth line.0 number.0 head c (length instrs.old) (length numbers.old) (length strings.old) (length pool.old) (length names.old) (length sections.old) }
-    ensures { (m : ℕ) (x : Block) (z : ℕ) → m ≤ mostNames → HoldsB nodes.now s.now m count i x z → LineDone m x line.0 number.0 head c (lent instrs.old numbers.old strings.old pool.old names.old) (lent instrs.new numbers.new strings.new pool.new names.new) sections.old sections.new result.head result.next result.number.0 }
+    ensures { (m : ℕ) (x : Block) (z : ℕ) → m ≤ 2 ^ nameBits → HoldsB nodes.now s.now m count i x z → LineDone m x line.0 number.0 head c (lent instrs.old numbers.old strings.old pool.old names.old) (lent instrs.new numbers.new strings.new pool.new names.new) sections.old sections.new result.head result.next result.number.0 }
 {
     let next = c.err;
     if count == 0 {

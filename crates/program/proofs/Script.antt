@@ -2,12 +2,12 @@
 use mathlib.Core.Path.{◌≡◌, refl, sym, ap, ◌∙◌}
 use mathlib.Core.Bool.{true}
 use mathlib.Core.List.{List, [], ◌∷◌, ◌++◌, map}
-use Prim.Native.Nat.{ℕ, suc, ◌+◌, ◌*◌, ◌/◌, ◌%◌, ◌≤◌, ◌<◌}
+use Prim.Native.Nat.{ℕ, suc, ◌+◌, ◌*◌, ◌/◌, ◌%◌, ◌≤◌, ◌<◌, ◌^◌}
 use native.Mathlib.Nat.{add-zero}
 use native.Mathlib.Numerals.{add-one}
 use native.Mathlib.Omega.{arith}
 use lib.ListN.{length, get_or, length-append}
-use Rattle.rules.specs.Constants.{mostBytes, mostNames, instrsANode}
+use Rattle.rules.specs.Constants.{mostBytes, nameBits, instrsANode}
 use Rattle.rules.specs.Tree.{Block, ofBlock, ofLines, both, emptyTally}
 use Rattle.rules.specs.Word.{insWord}
 use Rattle.rules.specs.Machine.{SectionCode}
@@ -196,7 +196,7 @@ lines-more {m} {L} {k} {k1} x bs cs {n} {n1} {n2} {head} {h1} {h2} {c} {d} {c1} 
 -- ---- line by line: the sum of their costs
 
 pub costs_on : {t ls : List ℕ} {L k sum cost : ℕ} → CostsMid t ls L k sum → k < L
-    → ((s : List ℕ) (m : ℕ) (x : Block) (z : ℕ) → length s ≤ mostBytes → m ≤ mostNames → HoldsB t s m (countIn (get_or ls k 0)) (firstIn (get_or ls k 0)) x z → cost ≡ ownCost x)
+    → ((s : List ℕ) (m : ℕ) (x : Block) (z : ℕ) → length s ≤ mostBytes → m ≤ 2 ^ nameBits → HoldsB t s m (countIn (get_or ls k 0)) (firstIn (get_or ls k 0)) x z → cost ≡ ownCost x)
     → CostsMid t ls L (k + 1) (sum + cost)
 costs_on c h f =
     record {
@@ -206,7 +206,7 @@ costs_on c h f =
           record { rest = lh.others; first = lh.last; held = lh.behind; all = omega (arith, u.all, lh.sum.own, f s m lh.block lh.last a b lh.here) };
     }
 
-pub costs_end : {t ls s : List ℕ} {L k sum m i z : ℕ} {bs : List Block} → CostsMid t ls L k sum → k ≡ L → length s ≤ mostBytes → m ≤ mostNames → HoldsL t ls s m 0 i bs L z → sum ≡ ownCosts bs
+pub costs_end : {t ls s : List ℕ} {L k sum m i z : ℕ} {bs : List Block} → CostsMid t ls L k sum → k ≡ L → length s ≤ mostBytes → m ≤ 2 ^ nameBits → HoldsL t ls s m 0 i bs L z → sum ≡ ownCosts bs
 unfolding ownCosts
 costs_end {sum = sum} c e a b h =
     let u = c.sums _ _ _ _ _ a b h in
@@ -217,7 +217,7 @@ costs_end {sum = sum} c e a b h =
 
 module _ {s t ls : List ℕ} {L n0 head0 : ℕ} {c0 : Counters} {t0 : Lent} {se0 : List ℕ} {k n head : ℕ} {c : Counters} {t1 : Lent} {se : List ℕ} (mid : LinesMid s t ls L n0 head0 c0 t0 se0 k n head c t1 se) where
   pub lines-on : {d c1 : Counters} {t2 : Lent} {se2 : List ℕ} {h1 n1 : ℕ} (nl : Section) → k < L → nl.0 ≡ nextLine L k → d ≡ aimedAt c nl → SameLengths t1 t2 se se2
-      → ((m : ℕ) (x : Block) (z : ℕ) → m ≤ mostNames → HoldsB t s m (countIn (get_or ls k 0)) (firstIn (get_or ls k 0)) x z → LineDone m x k n head d t1 t2 se se2 h1 c1 n1)
+      → ((m : ℕ) (x : Block) (z : ℕ) → m ≤ 2 ^ nameBits → HoldsB t s m (countIn (get_or ls k 0)) (firstIn (get_or ls k 0)) x z → LineDone m x k n head d t1 t2 se se2 h1 c1 n1)
       → LinesMid s t ls L n0 head0 c0 t0 se0 (k + 1) n1 h1 c1 t2 se2
   lines-on nl h v dd same f =
       let p = mid.ready in
@@ -243,5 +243,5 @@ module _ {s t ls : List ℕ} {L n0 head0 : ℕ} {c0 : Counters} {t0 : Lent} {se0
             };
       }
 
-  pub lines-end : {m i z : ℕ} {bs : List Block} → k ≡ L → m ≤ mostNames → HoldsL t ls s m 0 i bs L z → LinesDone m L 0 bs n0 head0 c0 t0 t1 se0 se head c n
+  pub lines-end : {m i z : ℕ} {bs : List Block} → k ≡ L → m ≤ 2 ^ nameBits → HoldsL t ls s m 0 i bs L z → LinesDone m L 0 bs n0 head0 c0 t0 t1 se0 se head c n
   lines-end e a h = let u = mid.going _ _ _ _ a h in u.goes _ _ _ _ _ (lines-none u.others (no-lines e u.held.1).is)

@@ -1,6 +1,6 @@
 -- What lowering a whole tree asks, and what it leaves: the words of the machine before replacement, from the start of each table on.
-use Rattle.std.specs.Prelude.{◌≡◌, List, ◌++◌, ℕ, ◌+◌, ◌*◌, ◌≤◌, ◌<◌, length, drop}
-use Rattle.rules.specs.Constants.{mostBytes, mostNames, mostDepth, mostNodes, instrsANode, numbersANode, mostCount, mostLines}
+use Rattle.std.specs.Prelude.{◌≡◌, List, ◌++◌, ℕ, ◌+◌, ◌*◌, ◌^◌, ◌≤◌, ◌<◌, length, drop}
+use Rattle.rules.specs.Constants.{mostBytes, nameBits, mostDepth, mostNodes, instrsANode, numbersANode, mostCount, mostLines}
 use Rattle.rules.specs.Tree.{Tree, ofLines}
 use Rattle.rules.specs.Machine.{Machine}
 use Rattle.rules.specs.Tables.{Tables, Counts, encode, countsOf}
@@ -38,7 +38,7 @@ pub record TreeReady (s t ls : List ℕ) (L n il nl sl pl ml zl : ℕ) : Type 0 
   pub inside : last ≤ length t
   pub line-words : L ≤ length ls
   pub few-lines : L ≤ mostLines
-  pub few-names : n ≤ mostNames
+  pub few-names : n ≤ 2 ^ nameBits
   pub few-nodes : (ofLines tree.lines).nodes ≤ mostNodes
   pub shallow : deepest tree.lines ≤ mostDepth
   pub few-strings : (ofLines tree.lines).strings ≤ mostCount

@@ -1,6 +1,6 @@
 -- All lines: their first sections stand at the lines' numbers, their others behind, and so do the instructions.
-use Rattle.std.specs.Prelude.{◌≡◌, List, [], ◌∷◌, ℕ, ◌+◌, ◌*◌, ◌≤◌, max, length}
-use Rattle.rules.specs.Constants.{mostBytes, mostNames, mostDepth, mostNodes, instrsANode, mostLines}
+use Rattle.std.specs.Prelude.{◌≡◌, List, [], ◌∷◌, ℕ, ◌+◌, ◌*◌, ◌^◌, ◌≤◌, max, length}
+use Rattle.rules.specs.Constants.{mostBytes, nameBits, mostDepth, mostNodes, instrsANode, mostLines}
 use Rattle.rules.specs.Tree.{Block, ofLines}
 use Rattle.rules.specs.Script.{Script}
 use Rattle.rules.specs.Assemble.{heads, tails}
@@ -42,7 +42,7 @@ pub record HeldLines (s t ls : List ℕ) (k L : ℕ) : Type 0 where
   pub held : HoldsL t ls s known k first blocks L last
   pub inside : last ≤ length t
   pub short : length s ≤ mostBytes
-  pub few : known ≤ mostNames
+  pub few : known ≤ 2 ^ nameBits
   pub words : L ≤ length ls
 
 -- all L lines are held
@@ -60,7 +60,7 @@ pub record Summed (t ls s : List ℕ) (m L k sum : ℕ) (bs : List Block) (z : �
   pub all : sum + ownCosts rest ≡ ownCosts bs
 
 pub record CostsMid (t ls : List ℕ) (L k sum : ℕ) : Type 0 where
-  pub sums : (s : List ℕ) (m : ℕ) (bs : List Block) (i z : ℕ) → length s ≤ mostBytes → m ≤ mostNames → HoldsL t ls s m 0 i bs L z → Summed t ls s m L k sum bs z
+  pub sums : (s : List ℕ) (m : ℕ) (bs : List Block) (i z : ℕ) → length s ≤ mostBytes → m ≤ 2 ^ nameBits → HoldsL t ls s m 0 i bs L z → Summed t ls s m L k sum bs z
 
 -- and there is room for them: for their first sections' instructions from `head` on, for the others from the cursor on
 pub record LinesReady (s t ls : List ℕ) (k L number head : ℕ) (c : Counters) (il nl sl pl ml zl : ℕ) : Type 0 where
@@ -86,7 +86,7 @@ pub record LinesDone (m L k : ℕ) (bs : List Block) (n head : ℕ) (c : Counter
 -- midway, before line k
 pub record LinesMid (s t ls : List ℕ) (L n0 head0 : ℕ) (c0 : Counters) (t0 : Lent) (se0 : List ℕ) (k n head : ℕ) (c : Counters) (t1 : Lent) (se : List ℕ) : Type 0 where
   pub ready : LinesReady s t ls k L n head c (length t1.instrs) (length t1.numbers) (length t1.strings) (length t1.pool) (length t1.names) (length se)
-  pub going : (m : ℕ) (bs : List Block) (i z : ℕ) → m ≤ mostNames → HoldsL t ls s m 0 i bs L z
+  pub going : (m : ℕ) (bs : List Block) (i z : ℕ) → m ≤ 2 ^ nameBits → HoldsL t ls s m 0 i bs L z
       → Going (λ (rest : List Block). (first : ℕ) × HoldsL t ls s m k first rest L z)
       (λ rest t2 se2 c2 head2 n2. LinesDone m L k rest n head c t1 t2 se se2 head2 c2 n2)
       (λ t2 se2 c2 head2 n2. LinesDone m L 0 bs n0 head0 c0 t0 t2 se0 se2 head2 c2 n2)

@@ -2,8 +2,8 @@
 //
 // `head_costs` is shown to count the own instructions of the lines' first statements, `codegen_from_lines` to make the sections that `heads`
 // and `tails` of `rules` say (`LinesDone`). A caller owes the tables of nodes and lines, and room.
-ghost use Rattle.std.specs.Prelude.{◌≡◌, List, ℕ, ◌≤◌, ◌<◌, ◌/◌, ◌%◌, length};
-ghost use Rattle.rules.specs.Constants.{mostBytes, mostNames, mostLines};
+ghost use Rattle.std.specs.Prelude.{◌≡◌, List, ℕ, ◌≤◌, ◌<◌, ◌/◌, ◌%◌, length, ◌^◌};
+ghost use Rattle.rules.specs.Constants.{mostBytes, nameBits, mostLines};
 ghost use Rattle.rules.specs.Tree.{Block};
 ghost use Rattle.rules.specs.Assemble.{nextLine};
 ghost use Rattle.nodes.specs.Holds.{HoldsB};
@@ -23,7 +23,7 @@ use words::instr::Section;
 // How many instructions the first statement of a line emits itself; an empty line has none.
 fn head_cost(nodes: &[u64], w: u64) -> usize
     requires { ListAt nodes.now (firstIn w) (countIn w) }
-    ensures { (s : List ℕ) (m : ℕ) (x : Block) (z : ℕ) → length s ≤ mostBytes → m ≤ mostNames → HoldsB nodes.now s m (countIn w) (firstIn w) x z → result ≡ ownCost x }
+    ensures { (s : List ℕ) (m : ℕ) (x : Block) (z : ℕ) → length s ≤ mostBytes → m ≤ 2 ^ nameBits → HoldsB nodes.now s m (countIn w) (firstIn w) x z → result ≡ ownCost x }
 {
     if w % LINE_COUNTS == 0 {
         return 0;
@@ -35,7 +35,7 @@ fn head_cost(nodes: &[u64], w: u64) -> usize
 #[tactic(auto, using(crate::proofs::Script::costs_on, crate::proofs::Script::costs_end))]
 pub fn head_costs(nodes: &[u64], lines: &[u64], count: usize) -> usize
     requires { LinesAt nodes.now lines.now count }
-    ensures { (s : List ℕ) (m : ℕ) (bs : List Block) (i z : ℕ) → length s ≤ mostBytes → m ≤ mostNames → HoldsL nodes.now lines.now s m 0 i bs count z → result ≡ ownCosts bs }
+    ensures { (s : List ℕ) (m : ℕ) (bs : List Block) (i z : ℕ) → length s ≤ mostBytes → m ≤ 2 ^ nameBits → HoldsL nodes.now lines.now s m 0 i bs count z → result ≡ ownCosts bs }
 {
     let mut sum: usize = 0;
     let mut k: usize = 0;
@@ -88,7 +88,7 @@ pub fn codegen_from_lines(
     c: Counters,
 ) -> LineEnd
     requires { LinesReady s.now nodes.now lines.now 0 count number.0 head c (length instrs.old) (length numbers.old) (length strings.old) (length pool.old) (length names.old) (length sections.old) }
-    ensures { (m : ℕ) (bs : List Block) (i z : ℕ) → m ≤ mostNames → HoldsL nodes.now lines.now s.now m 0 i bs count z → LinesDone m count 0 bs number.0 head c (lent instrs.old numbers.old strings.old pool.old names.old) (lent instrs.new numbers.new strings.new pool.new names.new) sections.old sections.new result.head result.next result.number.0 }
+    ensures { (m : ℕ) (bs : List Block) (i z : ℕ) → m ≤ 2 ^ nameBits → HoldsL nodes.now lines.now s.now m 0 i bs count z → LinesDone m count 0 bs number.0 head c (lent instrs.old numbers.old strings.old pool.old names.old) (lent instrs.new numbers.new strings.new pool.new names.new) sections.old sections.new result.head result.next result.number.0 }
 {
     let mut done = LineEnd {
         head,

@@ -2,12 +2,12 @@
 use mathlib.Core.Path.{◌≡◌, refl, sym, ap, ◌∙◌}
 use mathlib.Core.Bool.{Bool, false, cond}
 use mathlib.Core.List.{List}
-use Prim.Native.Nat.{ℕ, ◌+◌, ◌*◌, ◌-◌, ◌/◌, ◌%◌, ◌<◌, ◌≤◌}
+use Prim.Native.Nat.{ℕ, ◌+◌, ◌*◌, ◌-◌, ◌/◌, ◌%◌, ◌<◌, ◌≤◌, ◌^◌}
 use native.Mathlib.Omega.{arith}
 use lib.Dec.{eqb}
 use lib.ListN.{length, get_or}
 use borrow.Author.Tests.{eq-eqb, ne_eqb}
-use Rattle.rules.specs.Constants.{mostBytes, mostNames}
+use Rattle.rules.specs.Constants.{mostBytes, nameBits}
 use Rattle.rules.specs.Bits.{isOne}
 use Rattle.rules.specs.Tree.{Block, end, goto, ite, assign, Expr, Assignop, PowTo, ofBlock, ofExpr, statement, node, both, emptyTally}
 use Rattle.rules.specs.Parse.{assignops}
@@ -63,7 +63,7 @@ pub record StepAt (t : List ℕ) (m i : ℕ) (x : Block) : Type 0 where
   pub is : x ≡ Block.incdec (isOne (opIn (get_or t i 0))) (nameIn (get_or t i 0)) end
   pub known : nameIn (get_or t i 0) < m
 
-pub step-at : {t s : List ℕ} {m i z : ℕ} {x : Block} → m ≤ mostNames → HoldsB t s m 1 i x z → kindIn (get_or t i 0) ≡ stepKind → StepAt t m i x
+pub step-at : {t s : List ℕ} {m i z : ℕ} {x : Block} → m ≤ 2 ^ nameBits → HoldsB t s m 1 i x z → kindIn (get_or t i 0) ≡ stepKind → StepAt t m i x
 step-at a h k =
     let b = is-step (omega arith) h k in
     let c = b.count in
@@ -79,7 +79,7 @@ pub record AssignAt (t s : List ℕ) (m i : ℕ) (x : Block) (z : ℕ) : Type 0 
   pub small : opIn (get_or t i 0) < 7
   pub value : HoldsE t s m (i + 1) e z
 
-pub assign-at : {t s : List ℕ} {m i z : ℕ} {x : Block} → m ≤ mostNames → HoldsB t s m 1 i x z → kindIn (get_or t i 0) ≡ assignKind → AssignAt t s m i x z
+pub assign-at : {t s : List ℕ} {m i z : ℕ} {x : Block} → m ≤ 2 ^ nameBits → HoldsB t s m 1 i x z → kindIn (get_or t i 0) ≡ assignKind → AssignAt t s m i x z
 unfolding assignops
 assign-at a h k =
     let b = is-assign (omega arith) h k in
@@ -113,7 +113,7 @@ pub record IteAt (t s : List ℕ) (m i : ℕ) (x : Block) (z : ℕ) : Type 0 whe
   pub second : lastIn (get_or t (i + 1) 0) ≤ mid
   pub third : mid ≤ z
 
-pub ite-at : {t s : List ℕ} {m i z : ℕ} {x : Block} → length s ≤ mostBytes → m ≤ mostNames → HoldsB t s m 1 i x z → kindIn (get_or t i 0) ≡ iteKind → IteAt t s m i x z
+pub ite-at : {t s : List ℕ} {m i z : ℕ} {x : Block} → length s ≤ mostBytes → m ≤ 2 ^ nameBits → HoldsB t s m 1 i x z → kindIn (get_or t i 0) ≡ iteKind → IteAt t s m i x z
 ite-at a c h k =
     let b = is-ite (omega arith) h k in
     let n = b.count in

@@ -2,11 +2,11 @@
 use mathlib.Core.Path.{◌≡◌, refl, sym, ap, ◌∙◌}
 use mathlib.Core.Bool.{Bool, false}
 use mathlib.Core.List.{List}
-use Prim.Native.Nat.{ℕ, ◌+◌, ◌*◌, ◌-◌, ◌/◌, ◌<◌, ◌≤◌}
+use Prim.Native.Nat.{ℕ, ◌+◌, ◌*◌, ◌-◌, ◌/◌, ◌<◌, ◌≤◌, ◌^◌}
 use native.Mathlib.Omega.{arith}
 use lib.ListN.{length, get_or}
 use borrow.Author.Tests.{eq-eqb, ne_eqb}
-use Rattle.rules.specs.Constants.{mostBytes, mostNames}
+use Rattle.rules.specs.Constants.{mostBytes, nameBits}
 use Rattle.rules.specs.Tree.{Block, end, ite, assign, ofBlock, statement, node, both, emptyTally}
 use Rattle.rules.specs.Parse.{assignops}
 use Rattle.nodes.specs.Words.{iteKind, gotoKind, stepKind, assignKind, elseWidth, kindIn, lastIn, widthIn}
@@ -70,7 +70,7 @@ linked-other : (w k : ℕ) → kindIn w ≡ k → (k ≡ gotoKind → ⊥) → (
 unfolding linkedBy
 linked-other w k e h l = rw (ne_eqb (kindIn w) gotoKind (λ q. h (sym e ∙ q)))
 
-pub split : {t s : List ℕ} {m n i z : ℕ} {x : Block} → length s ≤ mostBytes → m ≤ mostNames → 0 < n → HoldsB t s m n i x z → Split t s m n i x z
+pub split : {t s : List ℕ} {m n i z : ℕ} {x : Block} → length s ≤ mostBytes → m ≤ 2 ^ nameBits → 0 < n → HoldsB t s m n i x z → Split t s m n i x z
 unfolding only rest width assignops
 split a c h (at-end p q) = absurd (omega arith)
 split a c h (at-goto {i = i} p w q e xs) =

@@ -2,11 +2,11 @@
 use mathlib.Core.Path.{◌≡◌, sym, ap, ◌∙◌}
 use mathlib.Core.Bool.{Bool, cond}
 use mathlib.Core.List.{List}
-use Prim.Native.Nat.{ℕ, ◌+◌, ◌-◌, ◌≤◌, ◌<◌}
+use Prim.Native.Nat.{ℕ, ◌+◌, ◌-◌, ◌≤◌, ◌<◌, ◌^◌}
 use native.Mathlib.Omega.{arith}
 use lib.ListN.{get_or}
 use Rattle.nodes.specs.Words.{lastIn}
-use Rattle.rules.specs.Constants.{mostNames}
+use Rattle.rules.specs.Constants.{nameBits}
 use Rattle.rules.specs.Tree.{Block, ofBlock, emptyTally}
 use Rattle.nodes.specs.Width.{width}
 use Rattle.nodes.specs.Holds.{HoldsB}
@@ -26,7 +26,7 @@ module _ {s t : List ℕ} {i0 count depth n0 k : ℕ} {l0 : Bool} {c0 : Counters
   -- one more is lowered: linked as fl says, with number fn, left to fk; the whole is left to j, which is k
   pub list-on : {fl l' : Bool} {fn fk n' j : ℕ} {c1 : Counters} {t2 : Lent} {se2 : List ℕ} → 0 < left → fl ≡ l → fn ≡ n → fk ≡ entryBy left (n + madeBy (get_or t i 0)) j → j ≡ k
       → l' ≡ linkedBy (get_or t i 0) l → n' ≡ n + madeBy (get_or t i 0) → SameLengths t1 t2 se se2
-      → ((m : ℕ) (x : Block) (z : ℕ) → m ≤ mostNames → HoldsB t s m 1 i x z → ListDone m x z fl fn fk c t1 t2 se se2 c1 z (fn + width x))
+      → ((m : ℕ) (x : Block) (z : ℕ) → m ≤ 2 ^ nameBits → HoldsB t s m 1 i x z → ListDone m x z fl fn fk c t1 t2 se se2 c1 z (fn + width x))
       → ListMid s t i0 count depth l0 n0 k c0 t0 se0 (lastIn (get_or t i 0)) (left - 1) l' n' c1 t2 se2
   list-on h a b d to e g same f =
       let p = mid.ready in
@@ -55,7 +55,7 @@ module _ {s t : List ℕ} {i0 count depth n0 k : ℕ} {l0 : Bool} {c0 : Counters
             };
       }
 
-  pub list-end : {m z : ℕ} {x : Block} → left ≤ 0 → m ≤ mostNames → HoldsB t s m count i0 x z → ListDone m x z l0 n0 k c0 t0 t1 se0 se c i n
+  pub list-end : {m z : ℕ} {x : Block} → left ≤ 0 → m ≤ 2 ^ nameBits → HoldsB t s m count i0 x z → ListDone m x z l0 n0 k c0 t0 t1 se0 se c i n
   unfolding ofBlock emptyTally width
   list-end h a q =
       let u = mid.going _ _ _ a q in

@@ -1,7 +1,7 @@
 -- What lowering a list of statements gives: its sections in the tables, one behind the other.
-use Rattle.std.specs.Prelude.{◌≡◌, Bool, true, false, cond, eqb, List, [], map, ℕ, suc, ◌+◌, ◌-◌, ◌*◌, ◌≤◌, ◌<◌, max, length}
+use Rattle.std.specs.Prelude.{◌≡◌, Bool, true, false, cond, eqb, List, [], map, ℕ, suc, ◌+◌, ◌-◌, ◌*◌, ◌^◌, ◌≤◌, ◌<◌, max, length}
 use Rattle.std.proofs.lemmas.List.Edits.{sets}
-use Rattle.rules.specs.Constants.{mostBytes, mostNames, instrsANode, numbersANode, mostCount}
+use Rattle.rules.specs.Constants.{mostBytes, nameBits, instrsANode, numbersANode, mostCount}
 use Rattle.rules.specs.Word.{insWord}
 use Rattle.rules.specs.Tree.{Block, end, ite, assign, Tally, ofBlock, both}
 use Rattle.rules.specs.Machine.{SectionCode}
@@ -121,7 +121,7 @@ pub record Held (s t : List ℕ) (i count depth : ℕ) : Type 0 where
   pub held : HoldsB t s known count i block last
   pub inside : last ≤ length t
   pub short : length s ≤ mostBytes
-  pub few : known ≤ mostNames
+  pub few : known ≤ 2 ^ nameBits
   pub shallow : deep block ≤ depth
 
 -- and there is room for it
@@ -168,7 +168,7 @@ pub record Going {X : Type 0} (from : X → Type 0) (done : X → Lent → List 
 -- of a list of statements that ends at node z, `left` from node i on are left
 pub record ListMid (s t : List ℕ) (i0 count depth : ℕ) (l0 : Bool) (n0 k : ℕ) (c0 : Counters) (t0 : Lent) (se0 : List ℕ) (i left : ℕ) (l : Bool) (n : ℕ) (c : Counters) (t1 : Lent) (se : List ℕ) : Type 0 where
   pub ready : ListReady s t i left depth n c (length t1.instrs) (length t1.numbers) (length t1.strings) (length t1.pool) (length t1.names) (length se)
-  pub going : (m : ℕ) (x : Block) (z : ℕ) → m ≤ mostNames → HoldsB t s m count i0 x z
+  pub going : (m : ℕ) (x : Block) (z : ℕ) → m ≤ 2 ^ nameBits → HoldsB t s m count i0 x z
       → Going (λ (y : Block). HoldsB t s m left i y z) (λ y t2 se2 c2 node number. ListDone m y z l n k c t1 t2 se se2 c2 node number)
       (λ t2 se2 c2 node number. ListDone m x z l0 n0 k c0 t0 t2 se0 se2 c2 node number)
 

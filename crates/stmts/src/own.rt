@@ -2,8 +2,8 @@
 //
 // Each function is shown to do what the step of its name in `rules` (Annotate) does, for the expression that the node table holds. A caller
 // owes the table and room (`Holding`).
-ghost use Rattle.std.specs.Prelude.{◌≡◌, ℕ, ◌+◌, ◌≤◌, ◌<◌, length, get_or};
-ghost use Rattle.rules.specs.Constants.{mostNames};
+ghost use Rattle.std.specs.Prelude.{◌≡◌, ℕ, ◌+◌, ◌^◌, ◌≤◌, ◌<◌, length, get_or};
+ghost use Rattle.rules.specs.Constants.{nameBits};
 ghost use Rattle.rules.specs.Tree as Tree;
 ghost use Rattle.rules.specs.Instr.{canRuntimeErr, unused, num};
 ghost use Rattle.rules.specs.Parse.{assignops};
@@ -112,7 +112,7 @@ pub fn codegen_from_assign(
     op: u64,
 ) -> Counters
     requires { Setting s.now nodes.now i c x (length instrs.old) (length numbers.old) (length strings.old) (length pool.old) (length names.old) × (op < 7) }
-    ensures { (m : ℕ) (e : Tree.Expr) (j : ℕ) → m ≤ mostNames → x < m → HoldsE nodes.now s.now m i e j → LowersTo (codegenFromAssign x (get_or assignops op Tree.PowTo) e) m e (assignCost (get_or assignops op Tree.PowTo)) 2 2 c (lent instrs.old numbers.old strings.old pool.old names.old) (lent instrs.new numbers.new strings.new pool.new names.new) 0 result }
+    ensures { (m : ℕ) (e : Tree.Expr) (j : ℕ) → m ≤ 2 ^ nameBits → x < m → HoldsE nodes.now s.now m i e j → LowersTo (codegenFromAssign x (get_or assignops op Tree.PowTo) e) m e (assignCost (get_or assignops op Tree.PowTo)) 2 2 c (lent instrs.old numbers.old strings.old pool.old names.old) (lent instrs.new numbers.new strings.new pool.new names.new) 0 result }
 {
     let e = codegen_from_expr(s, nodes, instrs, numbers, strings, pool, names, i, c);
     let v = get_variable(names, e.next, x);
@@ -132,7 +132,7 @@ pub fn line_number(
     c: Counters,
 ) -> GotNum
     requires { Holding s.now nodes.now i c 2 1 0 (length instrs.old) (length numbers.old) (length strings.old) (length pool.old) (length names.old) }
-    ensures { (m : ℕ) (e : Tree.Expr) (j : ℕ) → m ≤ mostNames → HoldsE nodes.now s.now m i e j → LowersTo (lineNumber e) m e 2 1 0 c (lent instrs.old numbers.old strings.old pool.old names.old) (lent instrs.new numbers.new strings.new pool.new names.new) result.reg.0 result.next }
+    ensures { (m : ℕ) (e : Tree.Expr) (j : ℕ) → m ≤ 2 ^ nameBits → HoldsE nodes.now s.now m i e j → LowersTo (lineNumber e) m e 2 1 0 c (lent instrs.old numbers.old strings.old pool.old names.old) (lent instrs.new numbers.new strings.new pool.new names.new) result.reg.0 result.next }
 {
     let e = codegen_from_expr(s, nodes, instrs, numbers, strings, pool, names, i, c);
     numberify(instrs, numbers, e.next, e.reg)
@@ -151,7 +151,7 @@ pub fn condition(
     c: Counters,
 ) -> GotNum
     requires { Holding s.now nodes.now i c 1 1 0 (length instrs.old) (length numbers.old) (length strings.old) (length pool.old) (length names.old) }
-    ensures { (m : ℕ) (e : Tree.Expr) (j : ℕ) → m ≤ mostNames → HoldsE nodes.now s.now m i e j → LowersTo (conditionS e) m e 1 1 0 c (lent instrs.old numbers.old strings.old pool.old names.old) (lent instrs.new numbers.new strings.new pool.new names.new) result.reg.0 result.next }
+    ensures { (m : ℕ) (e : Tree.Expr) (j : ℕ) → m ≤ 2 ^ nameBits → HoldsE nodes.now s.now m i e j → LowersTo (conditionS e) m e 1 1 0 c (lent instrs.old numbers.old strings.old pool.old names.old) (lent instrs.new numbers.new strings.new pool.new names.new) result.reg.0 result.next }
 {
     let e = codegen_from_expr(s, nodes, instrs, numbers, strings, pool, names, i, c);
     make_truthy(instrs, numbers, e.next, e.reg)

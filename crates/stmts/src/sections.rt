@@ -3,9 +3,9 @@
 // Each function is shown to make a section of what the step of `rules` emits (`Makes`); `codegen_from_own` chooses among them by the node's kind,
 // for lists and for lines (`OwnDone`). A caller owes the node table and room (`Holding`, `OwnReady`), a slot in the table of sections, and
 // instructions below 65,536.
-ghost use Rattle.std.specs.Prelude.{◌≡◌, List, map, ℤ, ℕ, ◌+◌, ◌-◌, ◌≤◌, ◌<◌, length, get_or, set};
+ghost use Rattle.std.specs.Prelude.{◌≡◌, List, map, ℤ, ℕ, ◌+◌, ◌^◌, ◌-◌, ◌≤◌, ◌<◌, length, get_or, set};
 ghost use Rattle.std.proofs.lemmas.List.Edits.{sets};
-ghost use Rattle.rules.specs.Constants.{mostNames, mostCount};
+ghost use Rattle.rules.specs.Constants.{nameBits, mostCount};
 ghost use Rattle.rules.specs.Tables.{runOf};
 ghost use Rattle.rules.specs.Tree as Tree;
 ghost use Rattle.rules.specs.Tree.{Block};
@@ -120,7 +120,7 @@ pub fn codegen_from_goto(
     place: Place,
 ) -> Counters
     requires { Holding s.now nodes.now i c 2 1 0 (length instrs.old) (length numbers.old) (length strings.old) (length pool.old) (length names.old) × (place.slot.0 < length sections.old) × (length instrs.old < 65536) }
-    ensures { (m : ℕ) (e : Tree.Expr) (j : ℕ) → m ≤ mostNames → HoldsE nodes.now s.now m i e j → Makes m (lineNumber e) place.start nothing Machine.line place.slot.0 c (lent instrs.old numbers.old strings.old pool.old names.old) (lent instrs.new numbers.new strings.new pool.new names.new) sections.old sections.new result × SpentOn e 2 1 0 c result }
+    ensures { (m : ℕ) (e : Tree.Expr) (j : ℕ) → m ≤ 2 ^ nameBits → HoldsE nodes.now s.now m i e j → Makes m (lineNumber e) place.start nothing Machine.line place.slot.0 c (lent instrs.old numbers.old strings.old pool.old names.old) (lent instrs.new numbers.new strings.new pool.new names.new) sections.old sections.new result × SpentOn e 2 1 0 c result }
 {
     let n = line_number(s, nodes, instrs, numbers, strings, pool, names, i, c);
     let d = n.next;
@@ -153,7 +153,7 @@ pub fn codegen_from_set(
     op: u64,
 ) -> Counters
     requires { Setting s.now nodes.now i c x (length instrs.old) (length numbers.old) (length strings.old) (length pool.old) (length names.old) × (op < 7) × (place.slot.0 < length sections.old) × (length instrs.old < 65536) }
-    ensures { (m : ℕ) (e : Tree.Expr) (j : ℕ) → m ≤ mostNames → x < m → HoldsE nodes.now s.now m i e j → Makes m (codegenFromAssign x (get_or assignops op Tree.PowTo) e) place.start nothing (λ _. link place.linked place.next.0) place.slot.0 c (lent instrs.old numbers.old strings.old pool.old names.old) (lent instrs.new numbers.new strings.new pool.new names.new) sections.old sections.new result × SpentOn e (assignCost (get_or assignops op Tree.PowTo)) 2 2 c result }
+    ensures { (m : ℕ) (e : Tree.Expr) (j : ℕ) → m ≤ 2 ^ nameBits → x < m → HoldsE nodes.now s.now m i e j → Makes m (codegenFromAssign x (get_or assignops op Tree.PowTo) e) place.start nothing (λ _. link place.linked place.next.0) place.slot.0 c (lent instrs.old numbers.old strings.old pool.old names.old) (lent instrs.new numbers.new strings.new pool.new names.new) sections.old sections.new result × SpentOn e (assignCost (get_or assignops op Tree.PowTo)) 2 2 c result }
 {
     let d = codegen_from_assign(s, nodes, instrs, numbers, strings, pool, names, i, c, x, op);
     put_section(
@@ -196,7 +196,7 @@ pub fn codegen_from_test(
     target: Section,
 ) -> Counters
     requires { Holding s.now nodes.now i c 2 1 0 (length instrs.old) (length numbers.old) (length strings.old) (length pool.old) (length names.old) × (place.slot.0 < length sections.old) × (length instrs.old < 65536) }
-    ensures { (m : ℕ) (e : Tree.Expr) (j : ℕ) → m ≤ mostNames → HoldsE nodes.now s.now m i e j → Makes m (conditionS e) place.start (jump empty target.0) (λ _. Machine.section place.next.0) place.slot.0 c (lent instrs.old numbers.old strings.old pool.old names.old) (lent instrs.new numbers.new strings.new pool.new names.new) sections.old sections.new result × SpentOn e (1 + jumpCost empty) 1 0 c result }
+    ensures { (m : ℕ) (e : Tree.Expr) (j : ℕ) → m ≤ 2 ^ nameBits → HoldsE nodes.now s.now m i e j → Makes m (conditionS e) place.start (jump empty target.0) (λ _. Machine.section place.next.0) place.slot.0 c (lent instrs.old numbers.old strings.old pool.old names.old) (lent instrs.new numbers.new strings.new pool.new names.new) sections.old sections.new result × SpentOn e (1 + jumpCost empty) 1 0 c result }
 {
     let n = condition(s, nodes, instrs, numbers, strings, pool, names, i, c);
     let test = n.reg;
@@ -230,7 +230,7 @@ pub fn codegen_from_own(
     c: Counters,
 ) -> Counters
     requires { OwnReady s.now nodes.now i link.number.0 slot.0 c (length instrs.old) (length numbers.old) (length strings.old) (length pool.old) (length names.old) (length sections.old) }
-    ensures { (m : ℕ) (x : Block) (z : ℕ) → m ≤ mostNames → HoldsB nodes.now s.now m 1 i x z → OwnDone m x start link.linked link.number.0 link.next.0 slot.0 c (lent instrs.old numbers.old strings.old pool.old names.old) (lent instrs.new numbers.new strings.new pool.new names.new) sections.old sections.new result }
+    ensures { (m : ℕ) (x : Block) (z : ℕ) → m ≤ 2 ^ nameBits → HoldsB nodes.now s.now m 1 i x z → OwnDone m x start link.linked link.number.0 link.next.0 slot.0 c (lent instrs.old numbers.old strings.old pool.old names.old) (lent instrs.new numbers.new strings.new pool.new names.new) sections.old sections.new result }
 {
     let w = nodes[i];
     let kind = w % KINDS;

@@ -5,8 +5,8 @@
 // `codegen_from_stmt` and `codegen_and_link_stmts` call each other, with the remaining depth falling; both are shown to write the sections that
 // `stmtSections` of `rules` makes of what `annotateStmts` gives, and `codegen_from_inside` those of a statement's lists (`InsideDone`). A caller
 // owes the node table and room (`ListReady`, `InsideReady`).
-ghost use Rattle.std.specs.Prelude.{◌≡◌, ℕ, ◌+◌, ◌-◌, ◌%◌, ◌≤◌, ◌<◌, length};
-ghost use Rattle.rules.specs.Constants.{mostNames, mostCount};
+ghost use Rattle.std.specs.Prelude.{◌≡◌, ℕ, ◌+◌, ◌^◌, ◌-◌, ◌%◌, ◌≤◌, ◌<◌, length};
+ghost use Rattle.rules.specs.Constants.{nameBits, mostCount};
 ghost use Rattle.rules.specs.Tree.{Block};
 ghost use Rattle.nodes.specs.Holds.{HoldsB};
 ghost use Rattle.nodes.specs.Width.{width};
@@ -101,7 +101,7 @@ pub fn codegen_from_stmt(
     c: Counters,
 ) -> Counters
     requires { ListReady s.now nodes.now i 1 depth link.number.0 c (length instrs.old) (length numbers.old) (length strings.old) (length pool.old) (length names.old) (length sections.old) }
-    ensures { (m : ℕ) (x : Block) (z : ℕ) → m ≤ mostNames → HoldsB nodes.now s.now m 1 i x z → ListDone m x z link.linked link.number.0 link.next.0 c (lent instrs.old numbers.old strings.old pool.old names.old) (lent instrs.new numbers.new strings.new pool.new names.new) sections.old sections.new result z (link.number.0 + width x) }
+    ensures { (m : ℕ) (x : Block) (z : ℕ) → m ≤ 2 ^ nameBits → HoldsB nodes.now s.now m 1 i x z → ListDone m x z link.linked link.number.0 link.next.0 c (lent instrs.old numbers.old strings.old pool.old names.old) (lent instrs.new numbers.new strings.new pool.new names.new) sections.old sections.new result z (link.number.0 + width x) }
 {
     let d = codegen_from_own(
         s,
@@ -140,7 +140,7 @@ pub fn codegen_from_inside(
     c: Counters,
 ) -> Counters
     requires { InsideReady s.now nodes.now i depth link.number.0 c (length instrs.old) (length numbers.old) (length strings.old) (length pool.old) (length names.old) (length sections.old) }
-    ensures { (m : ℕ) (x : Block) (z : ℕ) → m ≤ mostNames → HoldsB nodes.now s.now m 1 i x z → InsideDone m x link.linked link.number.0 link.next.0 c (lent instrs.old numbers.old strings.old pool.old names.old) (lent instrs.new numbers.new strings.new pool.new names.new) sections.old sections.new result }
+    ensures { (m : ℕ) (x : Block) (z : ℕ) → m ≤ 2 ^ nameBits → HoldsB nodes.now s.now m 1 i x z → InsideDone m x link.linked link.number.0 link.next.0 c (lent instrs.old numbers.old strings.old pool.old names.old) (lent instrs.new numbers.new strings.new pool.new names.new) sections.old sections.new result }
 {
     let w = nodes[i];
     if w % KINDS != ITE {
@@ -197,7 +197,7 @@ fn codegen_from_lists(
     c: Counters,
 ) -> Counters
     requires { IteReady s.now nodes.now i a b depth link.number.0 v w c (length instrs.old) (length numbers.old) (length strings.old) (length pool.old) (length names.old) (length sections.old) }
-    ensures { (m : ℕ) (x y : Block) (j z : ℕ) → m ≤ mostNames → HoldsB nodes.now s.now m a i x j → HoldsB nodes.now s.now m b j y z → IteDone m x y link.linked link.number.0 v w link.next.0 c (lent instrs.old numbers.old strings.old pool.old names.old) (lent instrs.new numbers.new strings.new pool.new names.new) sections.old sections.new result }
+    ensures { (m : ℕ) (x y : Block) (j z : ℕ) → m ≤ 2 ^ nameBits → HoldsB nodes.now s.now m a i x j → HoldsB nodes.now s.now m b j y z → IteDone m x y link.linked link.number.0 v w link.next.0 c (lent instrs.old numbers.old strings.old pool.old names.old) (lent instrs.new numbers.new strings.new pool.new names.new) sections.old sections.new result }
 {
     let other = Section(link.number.0 + v);
     let join = Section(other.0 + w);
@@ -253,7 +253,7 @@ fn codegen_from_branch(
     c: Counters,
 ) -> Ended
     requires { BranchReady s.now nodes.now i count depth number.0 c (length instrs.old) (length numbers.old) (length strings.old) (length pool.old) (length names.old) (length sections.old) × (count < 64) }
-    ensures { (m : ℕ) (x : Block) (z : ℕ) → m ≤ mostNames → HoldsB nodes.now s.now m count i x z → BranchDone m x z number.0 join.0 c (lent instrs.old numbers.old strings.old pool.old names.old) (lent instrs.new numbers.new strings.new pool.new names.new) sections.old sections.new result.next result.node }
+    ensures { (m : ℕ) (x : Block) (z : ℕ) → m ≤ 2 ^ nameBits → HoldsB nodes.now s.now m count i x z → BranchDone m x z number.0 join.0 c (lent instrs.old numbers.old strings.old pool.old names.old) (lent instrs.new numbers.new strings.new pool.new names.new) sections.old sections.new result.next result.node }
 {
     if count == 0 {
         put_section(
@@ -299,7 +299,7 @@ pub fn codegen_and_link_stmts(
     c: Counters,
 ) -> Ended
     requires { ListReady s.now nodes.now i count depth link.number.0 c (length instrs.old) (length numbers.old) (length strings.old) (length pool.old) (length names.old) (length sections.old) }
-    ensures { (m : ℕ) (x : Block) (z : ℕ) → m ≤ mostNames → HoldsB nodes.now s.now m count i x z → ListDone m x z link.linked link.number.0 link.next.0 c (lent instrs.old numbers.old strings.old pool.old names.old) (lent instrs.new numbers.new strings.new pool.new names.new) sections.old sections.new result.next result.node result.number.0 }
+    ensures { (m : ℕ) (x : Block) (z : ℕ) → m ≤ 2 ^ nameBits → HoldsB nodes.now s.now m count i x z → ListDone m x z link.linked link.number.0 link.next.0 c (lent instrs.old numbers.old strings.old pool.old names.old) (lent instrs.new numbers.new strings.new pool.new names.new) sections.old sections.new result.next result.node result.number.0 }
 {
     let mut d = c;
     let mut node = i;

@@ -20,5 +20,8 @@ withSuccess s r = run r.lineStart (kindOf s) (targetOf s) r.first r.count
 abbrev pub withFirst : ℕ → Run → Run
 withFirst f r = run r.lineStart r.kind r.target f r.count
 
+abbrev pub withCount : ℕ → Run → Run
+withCount c r = run r.lineStart r.kind r.target r.first c
+
 abbrev pub span : ℕ → ℕ → Span
 span s n = record { start = s; size = n }

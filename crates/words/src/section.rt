@@ -147,7 +147,7 @@ impl SectionWord {
         SectionOrLine::Section(Section(target))
     }
 
-    // The word with another successor or first instruction.
+    // The word with another successor, first instruction or count.
 
     #[tactic(auto, using(crate::proofs::Sections::one_bit))]
     pub fn with_success(self, success: SectionOrLine) -> SectionWord
@@ -172,6 +172,19 @@ impl SectionWord {
             self.target(),
             first,
             self.count(),
+        )
+    }
+
+    #[tactic(auto, using(crate::proofs::Sections::one_bit))]
+    pub fn with_count(self, count: u16) -> SectionWord
+        ensures { result.0 ≡ runWord (Runs.withCount count (wordRun self.0)) }
+    {
+        Self::word(
+            self.start(),
+            self.kind(),
+            self.target(),
+            self.first(),
+            count,
         )
     }
 }

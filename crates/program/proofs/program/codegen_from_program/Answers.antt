@@ -1,6 +1,7 @@
 -- The tree's lines are held and have room, and what is made of them is the whole machine's words.
 use Rattle.std.proofs.Common.{arith, refl, ◌≤◌, length}
-use Rattle.rules.specs.Constants.{mostNames}
+use Prim.Native.Nat.{◌^◌}
+use Rattle.rules.specs.Constants.{nameBits}
 use Rattle.program.proofs.Whole.{lines-nodes, laid}
 use Rattle.program.proofs.Script.{owns-most}
 use Rattle.program.proofs.program.codegen_from_program.Goals as goal
@@ -20,7 +21,7 @@ pub codegen_from_lines-r-requires : goal.codegen_from_lines-r-requires
 codegen_from_lines-r-requires c =
     let p = c.requires in
     let h = rw p.lines at p.held in
-    let f : length p.tree.names ≤ mostNames = omega arith in
+    let f : length p.tree.names ≤ 2 ^ nameBits = omega arith in
     let o = owns-most p.tree.lines in
     let e = c.head_costs.ensures _ _ _ _ _ p.short f h in
     record {
@@ -37,9 +38,9 @@ returns c =
     λ x z h pl l n.
     let p = c.requires in
     let hx = rw l at h in
-    let fx : length x.names ≤ mostNames = omega arith in
+    let fx : length x.names ≤ 2 ^ nameBits = omega arith in
     let hp = rw p.lines at p.held in
-    let fp : length p.tree.names ≤ mostNames = omega arith in
+    let fp : length p.tree.names ≤ 2 ^ nameBits = omega arith in
     let e = c.head_costs.ensures _ _ _ _ _ p.short fp hp in
     let d = c.codegen_from_lines-r.ensures _ _ _ _ fp hp in
     let o = owns-most p.tree.lines in
