@@ -14,7 +14,8 @@ use Rattle.rules.specs.Replace.{Rule, stays, goes, turns, number, result, blank,
 use Rattle.rules.specs.Lowered.{Options, nameWords, spans, texts, lowered}
 use Rattle.rules.specs.Operations.{sizeOf, estimate}
 use Rattle.bounds.specs.Lengths.{length-low, length-tailOf, heads-length}
-use Rattle.bounds.proofs.Own.{codeOf, sizes, codes, annotate-made}
+use Rattle.bounds.specs.Own.{codeOf, sizes, codes}
+use Rattle.bounds.proofs.Own.{annotate-made}
 use Rattle.bounds.proofs.Stay.{numbers-stay, strings-stay}
 use Rattle.laws.specs.Texts.{length-spans}
 use Rattle.laws.specs.Sections.{replaced-length}

@@ -18,12 +18,10 @@ use Rattle.rules.specs.Annotate.{codegenFromExpr, store, assignBy, codegenFromAs
 use Rattle.rules.specs.Preservation.{All}
 use Rattle.bounds.specs.Room.{Ok, ok₂, Room, code-grows, roomOf, NameBelow, Fine, Cost, cost, plus, Went, seq, within, room, went-here, went-emit, went-num, went-str}
 use Rattle.bounds.specs.Steps.{MadeVal, MadeNum, value-made, copy-made, copy-new, truthy-made, numberify-made, valueify-made, numbered-made, last}
+use Rattle.bounds.specs.Own.{costOf, free, Whole, whole-grows, codeOf, Made, sizes, codes, MadeAll}
 use Rattle.bounds.proofs.Operators.{arith-made, binary-made, unary-made, incdec-made}
 
 -- ---- expressions
-
-abbrev pub costOf : Tally → Cost
-costOf c = cost (numbersANode * c.nodes) (instrsANode * c.nodes) (3 * c.nodes) c.strings c.characters
 
 pub expr-made : (e : Expr) (g : CodegenData) → Fine g → MadeVal (costOf (ofExpr e)) g (codegenFromExpr e g)
 unfolding codegenFromExpr ofExpr kinds rules lookup
@@ -135,9 +133,6 @@ clear g = record { instrs = []; numbers = g.numbers; strings = g.strings; values
 clear-fine : (g : CodegenData) → Fine g → Fine (clear g)
 clear-fine g f = record { instrs = tt; names = f.names }
 
-abbrev pub free : Cost → Cost
-free c = cost c.n 0 c.v c.s c.p
-
 record Owned (c : Cost) (g : CodegenData) (x : (List Instruction × ℕ) × CodegenData) : Type 0 where
   went : Went (free c) g x.1
   instrs : All (Ok (roomOf x.1)) x.0.0
@@ -163,33 +158,6 @@ owned c g f m w =
     }
 
 -- ---- statements
-
--- Every statement's own instructions are fit, and so are a goto's and a condition's registers.
-abbrev pub Whole : Counts → Stmts → Type 0
-Whole u nil = Unit {0}
-Whole u (plain o s) = All (Ok u) o × Whole u s
-Whole u (Stmts.goto o r s) = All (Ok u) o × (r < u.numbers) × Whole u s
-Whole u (Stmts.ite o c t e s) = All (Ok u) o × (c < u.numbers) × Whole u t × Whole u e × Whole u s
-
-pub whole-grows : (u w : Counts) → Room u w → (s : Stmts) → Whole u s → Whole w s
-whole-grows u w r nil h = tt
-whole-grows u w r (plain o s) h = (code-grows u w r o h.0, whole-grows u w r s h.1)
-whole-grows u w r (Stmts.goto o k s) h = (code-grows u w r o h.0, omega (arith, h.1), whole-grows u w r s h.2)
-whole-grows u w r (Stmts.ite o c t e s) h =
-    (code-grows u w r o h.0, omega (arith, h.1), whole-grows u w r t h.2, whole-grows u w r e h.3, whole-grows u w r s h.4)
-
--- How many instructions a list's sections have at most.
-abbrev pub codeOf : Stmts → ℕ
-codeOf nil = 0
-codeOf (plain o s) = length o + codeOf s
-codeOf (Stmts.goto o r s) = length o + codeOf s
-codeOf (Stmts.ite o c t e s) = suc (length o) + (codeOf t + (codeOf e + codeOf s))
-
-pub record Made (c : Tally) (g : CodegenData) (x : Stmts × CodegenData) : Type 0 where
-  pub went : Went (free (costOf c)) g x.1
-  pub whole : Whole (roomOf x.1) x.0
-  pub size-most : sectionsMade x.0 ≤ sectionsAStatement * c.statements
-  pub code-most : codeOf x.0 ≤ instrsANode * c.nodes
 
 one-most : (s : Stmts) (n : ℕ) → orOne s n ≤ suc n
 one-most nil n = omega arith
@@ -272,21 +240,6 @@ block-made (assign v o e xs) g f =
     }
 
 -- ---- lines
-
-abbrev pub sizes : Script → ℕ
-sizes [] = 0
-sizes (s ∷ ss) = sectionsMade s + sizes ss
-
-abbrev pub codes : Script → ℕ
-codes [] = 0
-codes (s ∷ ss) = codeOf s + codes ss
-
-pub record MadeAll (c : Tally) (l : ℕ) (g : CodegenData) (x : Script × CodegenData) : Type 0 where
-  pub went : Went (free (costOf c)) g x.1
-  pub whole : All (Whole (roomOf x.1)) x.0
-  pub long : length x.0 ≡ l
-  pub size-most : sizes x.0 ≤ sectionsAStatement * c.statements
-  pub code-most : codes x.0 ≤ instrsANode * c.nodes
 
 pub lines-made : (bs : List Block) (g : CodegenData) → Fine g → MadeAll (ofLines bs) (length bs) g (annotateLines bs g)
 unfolding annotateLines ofLines

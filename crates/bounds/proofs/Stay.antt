@@ -19,7 +19,8 @@ use Rattle.rules.specs.Preservation.{All, RegistersBelow}
 use Rattle.bounds.specs.Good.{GoodWhole}
 use Rattle.bounds.specs.ReplaceScript.{lower-rep, length-rep}
 use Rattle.bounds.specs.Room.{Room, roomOf}
-use Rattle.bounds.proofs.Own.{Whole, whole-grows, annotate-made}
+use Rattle.bounds.specs.Own.{Whole, whole-grows}
+use Rattle.bounds.proofs.Own.{annotate-made}
 use Rattle.bounds.specs.Quiet.{script-quiet, script-good}
 use Rattle.laws.specs.Lists.{all-map}
 

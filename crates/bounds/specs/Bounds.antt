@@ -10,9 +10,6 @@ use Rattle.rules.specs.Tables.{Counts, countsOf}
 use Rattle.rules.specs.Annotate.{fresh}
 use Rattle.rules.specs.Lowered.{Options, lowered}
 use Rattle.rules.specs.Operations.{sizeOf, estimate}
-use Rattle.bounds.specs.LimitsTree.{limits}
-use Rattle.bounds.proofs.Own.{annotate-made}
-use Rattle.bounds.proofs.Estimate.{estimated}
 
 pub record Few (k : Tally) : Type 0 where
   pub statements : k.statements ≤ k.nodes

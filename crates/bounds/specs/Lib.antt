@@ -6,6 +6,7 @@ pub mod ReplaceScript
 -- what lowering makes: registers that are there, costs, and nothing that replacement adds a register for
 pub mod Room
 pub mod Steps
+pub mod Own
 pub mod Quiet
 -- what parsing grants, and the counts of a parsed tree's machine
 pub mod Parsed

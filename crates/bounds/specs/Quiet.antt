@@ -13,7 +13,7 @@ use Rattle.bounds.specs.Good.{CodeGood, Good, GoodTree, GoodWhole}
 use Rattle.bounds.specs.Jumps.{aimed-other}
 use Rattle.laws.specs.Lists.{not-both, all-append}
 use Rattle.bounds.specs.Room.{adds, Ok}
-use Rattle.bounds.proofs.Own.{Whole}
+use Rattle.bounds.specs.Own.{Whole}
 
 -- ---- a jump's target aside
 

@@ -73,7 +73,7 @@ truthy-made g r f h =
       reg = omega arith;
     }
 
-ok-error : (g : CodegenData) → Ok (roomOf g) errorJump
+pub ok-error : (g : CodegenData) → Ok (roomOf g) errorJump
 unfolding kinds rules lookup
 ok-error g = ok₁ (roomOf g) Op.JumpIfError 0 place refl refl tt
 

@@ -18,7 +18,8 @@ use Rattle.rules.specs.Preservation.{All, RegistersBelow}
 use Rattle.bounds.specs.Good.{CodeGood, GoodWhole}
 use Rattle.bounds.specs.Quiet.{shown-regs, cond-regs}
 use Rattle.bounds.specs.Room.{Room, roomOf, Ok}
-use Rattle.bounds.proofs.Own.{Whole, whole-grows, annotate-made}
+use Rattle.bounds.specs.Own.{Whole, whole-grows}
+use Rattle.bounds.proofs.Own.{annotate-made}
 use Rattle.bounds.specs.LimitsTree.{limits}
 use Rattle.machines.specs.Lowered.{lower-starts}
 use Rattle.machines.specs.FinishedCode.{lower-good}

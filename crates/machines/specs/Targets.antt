@@ -9,7 +9,7 @@ use Rattle.rules.specs.Assemble.{nextLine, orOne, sectionsMade, ownCode, entry, 
 use Rattle.rules.specs.Clean.{renIns, renNext, ren, keep, rank, cleanSections}
 use Rattle.rules.specs.Preservation.{All}
 use Rattle.bounds.specs.Lengths.{nextLine-lt}
-use Rattle.bounds.proofs.Own.{sizes}
+use Rattle.bounds.specs.Own.{sizes}
 use Rattle.machines.specs.Fits.{loose}
 use Rattle.laws.specs.Lists.{all-append}
 

@@ -19,7 +19,7 @@ use Rattle.rules.specs.CodegenData.{CodegenData}
 use Rattle.rules.specs.Annotate.{annotate, annotateStmts, annotateLines, fresh}
 use Rattle.rules.specs.Lowered.{Options, nameWords, spans, texts, assemble}
 use Rattle.bounds.specs.Lengths.{heads-length}
-use Rattle.bounds.proofs.Own.{sizes}
+use Rattle.bounds.specs.Own.{sizes}
 use Rattle.bounds.proofs.Estimate.{sections-length, names-length}
 use Rattle.laws.specs.Texts.{length-spans}
 use Rattle.nodes.specs.Holds.{HoldsE, HoldsB, at-binop, at-unop, at-incdec, at-ident, at-number, at-string, at-end, at-goto, at-ite, at-step, at-assign}

@@ -21,7 +21,8 @@ use Rattle.rules.specs.Preservation.{All, Preserves, RegistersBelow, GotoBelow}
 use Rattle.walks.specs.Claim.{PreservesScript}
 use Rattle.bounds.specs.Good.{SectGood, NextGood, GoodWhole}
 use Rattle.bounds.specs.Room.{Room, roomOf}
-use Rattle.bounds.proofs.Own.{Whole, whole-grows, annotate-made}
+use Rattle.bounds.specs.Own.{Whole, whole-grows}
+use Rattle.bounds.proofs.Own.{annotate-made}
 use Rattle.bounds.specs.Quiet.{script-good, tree-good}
 use Rattle.walks.proofs.FinishWalk.{preservation-replaced}
 use Rattle.laws.specs.Lists.{all-map}
