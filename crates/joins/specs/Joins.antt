@@ -1,5 +1,5 @@
 -- One join of a pair: what stands where afterwards, how often another section is referred to, what it may take in. Assumes nothing but a pair.
-use Rattle.std.specs.Prelude.{◌≡◌, refl, Bool, true, false, cond, List, ℕ, suc, ◌+◌, ◌≤◌, ◌<◌, eqb, length, get_or, set}
+use Rattle.std.specs.Prelude.{◌≡◌, refl, Bool, true, false, cond, List, [], ◌∷◌, ℕ, zero, suc, ◌+◌, ◌≤◌, ◌<◌, eqb, length, get_or, set}
 use Rattle.std.proofs.Common.{sym, ap, ◌∙◌, ◌⊎◌, inl, inr, arith, eqb-true}
 use Rattle.std.proofs.lemmas.Bool.{eqb-false, false≢true}
 use Rattle.std.proofs.lemmas.List.{length-map}
@@ -13,6 +13,14 @@ use Rattle.rules.specs.Combine.{refsNext, refsCode, refs, mayTake, mate, without
 use Rattle.joins.specs.Numbers.{lt-or-le, fall-eqb, rises, without-fall, length-without}
 use Rattle.joins.specs.References.{refsOf, hit-self, hit-other, no-hit, refs-one, refs-two, refs-append, refs-set, refs-without, refs-fall}
 use Rattle.joins.specs.Pairs.{Pair}
+
+-- a section that takes another in starts a line where it did
+pub start-set : (m : List SectionCode) (i t : ℕ) (b : SectionCode) → (get_or (set m i (joined (get_or m i absent) b)) t absent).lineStart ≡ (get_or m t absent).lineStart
+start-set [] i t b = refl
+start-set (s ∷ m) zero zero b = refl
+start-set (s ∷ m) zero (suc t) b = refl
+start-set (s ∷ m) (suc i) zero b = refl
+start-set (s ∷ m) (suc i) (suc t) b = start-set m i t b
 
 module _ (m : List SectionCode) (i j : ℕ) (pr : Pair m i j) where
   -- both are there
@@ -105,11 +113,7 @@ module _ (m : List SectionCode) (i j : ℕ) (pr : Pair m i j) where
   -- ---- what is kept: line starts, references, and what may be taken in
 
   pub start-join : (v : ℕ) → (v ≡ j → ⊥) → (get_or (combineAt m i j) (fall j v) absent).lineStart ≡ (get_or m v absent).lineStart
-  start-join v ne = ap (λ (s : SectionCode). s.lineStart) (at-join v ne) ∙ go (stands v)
-    where
-      go : Stands v → (get_or Taken v absent).lineStart ≡ (get_or m v absent).lineStart
-      go (joint p q) = ap (λ (s : SectionCode). s.lineStart) q ∙ ap (λ (n : ℕ). (get_or m n absent).lineStart) (sym p)
-      go (other p q) = ap (λ (s : SectionCode). s.lineStart) q
+  start-join v ne = ap (λ (s : SectionCode). s.lineStart) (at-join v ne) ∙ start-set m i v (get_or m j absent)
 
   -- one reference less, that of S1 to j
   refs-left : (u : ℕ) → refs u (without Taken j) + refsNext u (get_or m i absent).success ≡ refs u m
@@ -119,11 +123,12 @@ module _ (m : List SectionCode) (i j : ℕ) (pr : Pair m i j) where
       let e : get_or Taken j absent ≡ b = get_or-set_other m i j Joint absent (λ q. pr.apart (sym q)) in
       omega (arith, refs-without u Taken j, ap (refsOf u) e, refs-set u m i Joint first-in, refs-append u a.instrs b.instrs)
 
+  refs-zero : refs j (without Taken j) ≡ 0
+  refs-zero = omega (arith, refs-left j, refs-first, pr.once)
+
   pub refs-join : (u : ℕ) → (u ≡ j → ⊥) → refs (fall j u) (combineAt m i j) ≡ refs u m
   unfolding combineAt
-  refs-join u ne =
-      let zero : refs j (without Taken j) ≡ 0 = omega (arith, refs-left j, refs-first, pr.once) in
-      refs-fall j u ne (without Taken j) zero ∙ (let z = ap (refsNext u) pr.succ in omega (arith, refs-left u, hit-other j u (λ e. ne (sym e))))
+  refs-join u ne = refs-fall j u ne (without Taken j) refs-zero ∙ (let z = ap (refsNext u) pr.succ in omega (arith, refs-left u, hit-other j u (λ e. ne (sym e))))
 
   pub take-join : (t u : ℕ) → (t ≡ j → ⊥) → (u ≡ j → ⊥) → mayTake (combineAt m i j) (fall j t) (fall j u) ≡ mayTake m t u
   take-join t u p q = rw (fall-eqb j t u p q, start-join u q, refs-join u q)

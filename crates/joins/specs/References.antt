@@ -36,6 +36,10 @@ refs-two u (s ∷ m) zero (suc v) h = omega (arith, refs-one u m v)
 refs-two u (s ∷ m) (suc t) zero h = omega (arith, refs-one u m t)
 refs-two u (s ∷ m) (suc t) (suc v) h = omega (arith, refs-two u m t v (λ e. h (ap suc e)))
 
+-- where nothing refers to j, no section goes on to it
+pub clear : (j : ℕ) (l : List SectionCode) → refs j l ≡ 0 → (t : ℕ) → refsNext j (get_or l t absent).success ≡ 0
+clear j l h t = omega (arith, refs-one j l t)
+
 -- ---- code behind code, a section set, a section taken out
 
 pub refs-append : (u : ℕ) (c d : List Instruction) → refsCode u (c ++ d) ≡ refsCode u c + refsCode u d
