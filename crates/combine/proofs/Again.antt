@@ -7,16 +7,20 @@ use Rattle.std.proofs.Math.Option.{Option, none, some}
 use Rattle.std.proofs.lemmas.List.{map-append, length-map, nil_from_length}
 use Rattle.std.proofs.Math.ListN.{length}
 use Rattle.std.proofs.Math.Seq.{length-take-le}
-use borrow.Author.Tests.{eqb-true}
+use borrow.Author.Tests.{eqb-true, eqb-false}
 use Rattle.rules.specs.Bits.{isOne}
 use Rattle.rules.specs.Instr.{Kind, kinds}
-use Rattle.rules.specs.Word.{insWord, wordIns, insSpare, runWord, wordRun, runSpare}
-use Rattle.rules.specs.Tables.{Tables, Counts, allb, insFits, fieldFits, successFits, startFits, runsFit, successOf, readSections, runWords, allCode, runOf}
+use Rattle.rules.specs.Constants.{mark}
+use Rattle.rules.specs.Word.{insWord, wordIns, insSpare, Run, runWord, wordRun, runSpare}
+use Rattle.rules.specs.Machine.{unfixed, section, line}
+use Rattle.rules.specs.Tables.{Tables, Counts, allb, insFits, fieldFits, successFits, startFits, runsFit, kindOf, successOf, readSections, runWords, allCode, runOf}
 use Rattle.rules.specs.Preservation.{All}
 use Rattle.laws.specs.Words.{InsSmall}
 use Rattle.laws.proofs.Words.{ins-small, ins-again, wordRun-small}
 use Rattle.laws.specs.Lists.{both, take-below}
-use Rattle.laws.proofs.SectionWord.{next-small, word-again}
+use Rattle.laws.specs.SectionWord.{NextSmall}
+use Rattle.laws.proofs.SectionWord.{word-again}
+use Rattle.words.specs.Runs.{run}
 use Rattle.laws.specs.Sections.{words-nil, words-cons, code-nil, code-cons}
 use Rattle.tables.specs.Rules.{sectionFits}
 use Rattle.tables.specs.Runs.{countOf, total, sectionOf, held}
@@ -29,6 +33,9 @@ use Rattle.combine.proofs.Counted.{one-code}
 -- each word of a list has 64 bits
 abbrev pub Wide : List ℕ → Type 0
 Wide ws = (i : ℕ) → get_or ws i 0 < 2 ^ 64
+
+wide-take : (n : ℕ) (t : List ℕ) → Wide t → Wide (take n t)
+wide-take n t h = take-below (2 ^ 64) n t (omega arith) h
 
 -- ---- instructions
 
@@ -62,6 +69,32 @@ code-all (w ∷ ws) is h =
 
 -- ---- sections
 
+-- a word's successor by its kind and target
+module _ (r : Run) where
+  is-line : eqb r.kind 1 ≡ true → successOf r ≡ line r.target
+  unfolding successOf isOne
+  is-line e = rw (e, successOf)
+
+  is-none : eqb r.kind 1 ≡ false → eqb r.target mark ≡ true → successOf r ≡ unfixed
+  unfolding successOf isOne
+  is-none e d = rw (e, d, successOf)
+
+  is-section : eqb r.kind 1 ≡ false → eqb r.target mark ≡ false → successOf r ≡ section r.target
+  unfolding successOf isOne
+  is-section e d = rw (e, d, successOf)
+
+  -- what it is again, and that it fits, each by its own field's bound
+  kind-again : (b c : Bool) → eqb r.kind 1 ≡ b → eqb r.target mark ≡ c → r.kind < 2 → kindOf (successOf r) ≡ r.kind
+  unfolding kindOf
+  kind-again true c e d h = rw (is-line e) (sym (eqb-true _ _ e))
+  kind-again false true e d h = rw (is-none e d) (let n = eqb-false r.kind 1 e in omega (arith, n))
+  kind-again false false e d h = rw (is-section e d) (let n = eqb-false r.kind 1 e in omega (arith, n))
+
+  next-small : (b c : Bool) → eqb r.kind 1 ≡ b → eqb r.target mark ≡ c → r.target < 2 ^ 16 → NextSmall (successOf r)
+  next-small true c e d h = rw (is-line e) h
+  next-small false true e d h = rw (is-none e d) tt
+  next-small false false e d h = rw (is-section e d) (let n = eqb-false r.target mark d in omega (arith, n))
+
 code-small : (is : List ℕ) → All InsSmall (map wordIns is)
 code-small [] = tt
 code-small (i ∷ is) = (ins-small i, code-small is)
@@ -69,14 +102,17 @@ code-small (i ∷ is) = (ins-small i, code-small is)
 -- what is read fits its fields
 pub read-small : (ws is : List ℕ) → All SectSmall (readSections ws is)
 read-small [] is = rw read-nil tt
-read-small (w ∷ ws) is = rw read-cons ((next-small (wordRun w) (wordRun-small w), code-small (take (wordRun w).count is)), read-small ws (drop (countOf w) is))
+read-small (w ∷ ws) is = rw read-cons ((next-small (wordRun w) _ _ refl refl (wordRun-small w).1.1.0, code-small (take (wordRun w).count is)), read-small ws (drop (countOf w) is))
+
+same-run : {a b c d e a' b' c' d' e' : ℕ} → a ≡ a' → b ≡ b' → c ≡ c' → d ≡ d' → e ≡ e' → run a b c d e ≡ run a' b' c' d' e'
+same-run p q r s t = cc
 
 -- the word of what was read of a word
 section-again : (w k : ℕ) (is : List ℕ) → w < 2 ^ 64 → runSpare w ≡ 0 → (wordRun w).first ≡ k → countOf w ≤ length is → runWord (runOf (isOne (wordRun w).lineStart) (successOf (wordRun w)) k (length (map wordIns (take (wordRun w).count is)))) ≡ w
 unfolding countOf
 section-again w k is h z f l =
     let n : length (map wordIns (take (wordRun w).count is)) ≡ (wordRun w).count = simp (length-map, length-take-le (wordRun w).count is l) in
-    rw (n, ← f) (word-again w h z)
+    ap runWord (same-run refl refl refl (sym f) n) ∙ word-again w h z
 
 runs-split : (u : Counts) (i k w : ℕ) (ws : List ℕ) → runsFit u i k (w ∷ ws) ≡ true → (sectionFits u i k w ≡ true) × (runsFit u (suc i) (k + countOf w) ws ≡ true)
 unfolding runsFit sectionFits countOf
@@ -128,8 +164,8 @@ module _ (t : Tables) (u : Counts) (s : Keeps t u) (h : Wide t.sections) (g : Wi
   unfolding held
   fits-sound =
       record {
-        sections = sym (words-again u ws is 0 0 (take-below (2 ^ 64) u.sections t.sections (omega arith) h) s.runs (omega (arith, covered)));
-        instrs = sym (ap (map insWord) (code-all ws is covered) ∙ code-again u is (take-below (2 ^ 64) u.instrs t.instrs (omega arith) g) s.instrs);
+        sections = sym (words-again u ws is 0 0 (wide-take u.sections t.sections h) s.runs (omega (arith, covered)));
+        instrs = sym (ap (map insWord) (code-all ws is covered) ∙ code-again u is (wide-take u.instrs t.instrs g) s.instrs);
         count = read-length ws is ∙ length-take-le u.sections t.sections s.counts.sections;
         code = ap length (code-all ws is covered) ∙ (length-map is wordIns ∙ long);
         few = s.counts.sections-few;

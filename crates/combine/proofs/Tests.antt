@@ -15,7 +15,7 @@ use Rattle.rules.specs.Tables.{allb, successOf, readSections}
 use Rattle.rules.specs.Operations.{fixedHere, nextAhead, allAhead}
 use Rattle.tables.specs.Runs.{countOf, sectionOf, fixedWord}
 use Rattle.tables.proofs.Read.{read-nil, read-cons, all-nil, all-cons, fixed-is}
-use Rattle.laws.specs.Lists.{at-elem}
+use Rattle.laws.specs.Lists.{at-elem, at-past}
 use Rattle.combine.specs.Tests.{startAt, nextIn, wordsAhead}
 
 -- ---- 14
@@ -52,6 +52,9 @@ module _ (s i : List ℕ) (n : ℕ) (h : n ≤ length s) (t : ℕ) where
     success-at =
         let e = elem-at (take n s) i t long in
         ap (λ (x : SectionCode). x.success) (at-elem (readSections (take n s) i) t absent e.0 e.1) ∙ (e.3 ∙ ap (λ (w : ℕ). successOf (wordRun w)) (get_or-take n s t 0 k))
+
+  pub past-at : n ≤ t → get_or (readSections (take n s) i) t absent ≡ absent
+  past-at k = at-past (readSections (take n s) i) t absent (elem-past (take n s) i t (omega (arith, length-take-le n s h)))
 
 module _ (s i : List ℕ) (n : ℕ) (h : n ≤ length s) where
   next-is : (k : ℕ) (x : SectionOrLine) → nextAhead (readSections (take n s) i) k x ≡ nextIn s n k x
