@@ -1,5 +1,5 @@
 -- Words that keep the rules are the words of what they hold: `fits-sound`. Assumes that each word has 64 bits.
-use Rattle.std.specs.Prelude.{◌≡◌, refl, Bool, ◌&&◌, List, [], ◌∷◌, map, ℕ, zero, suc, ◌+◌, ◌^◌, ◌<◌, ◌≤◌, eqb, take, drop, get_or}
+use Rattle.std.specs.Prelude.{◌≡◌, refl, Bool, ◌&&◌, List, [], ◌∷◌, map, ℕ, suc, ◌+◌, ◌^◌, ◌<◌, ◌≤◌, eqb, take, drop, get_or}
 use Rattle.std.proofs.Math.Path.{sym, ap}
 use Rattle.std.proofs.Common.{ap₂, ◌∙◌, arith, length-drop, take-append-drop}
 use Rattle.std.proofs.Math.Bool.{true, false}
