@@ -18,8 +18,7 @@ use Rattle.rules.specs.Preservation.{All}
 use Rattle.laws.specs.Words.{InsSmall}
 use Rattle.laws.proofs.Words.{ins-small, ins-again, wordRun-small}
 use Rattle.laws.specs.Lists.{both, take-below}
-use Rattle.laws.specs.SectionWord.{NextSmall}
-use Rattle.laws.proofs.SectionWord.{word-again}
+use Rattle.laws.proofs.SectionWord.{next-small, word-again}
 use Rattle.words.specs.Runs.{run}
 use Rattle.laws.specs.Sections.{words-nil, words-cons, code-nil, code-cons}
 use Rattle.tables.specs.Rules.{sectionFits}
@@ -69,32 +68,6 @@ code-all (w ∷ ws) is h =
 
 -- ---- sections
 
--- a word's successor by its kind and target
-module _ (r : Run) where
-  is-line : eqb r.kind 1 ≡ true → successOf r ≡ line r.target
-  unfolding successOf isOne
-  is-line e = rw (e, successOf)
-
-  is-none : eqb r.kind 1 ≡ false → eqb r.target mark ≡ true → successOf r ≡ unfixed
-  unfolding successOf isOne
-  is-none e d = rw (e, d, successOf)
-
-  is-section : eqb r.kind 1 ≡ false → eqb r.target mark ≡ false → successOf r ≡ section r.target
-  unfolding successOf isOne
-  is-section e d = rw (e, d, successOf)
-
-  -- what it is again, and that it fits, each by its own field's bound
-  kind-again : (b c : Bool) → eqb r.kind 1 ≡ b → eqb r.target mark ≡ c → r.kind < 2 → kindOf (successOf r) ≡ r.kind
-  unfolding kindOf
-  kind-again true c e d h = rw (is-line e) (sym (eqb-true _ _ e))
-  kind-again false true e d h = rw (is-none e d) (let n = eqb-false r.kind 1 e in omega (arith, n))
-  kind-again false false e d h = rw (is-section e d) (let n = eqb-false r.kind 1 e in omega (arith, n))
-
-  next-small : (b c : Bool) → eqb r.kind 1 ≡ b → eqb r.target mark ≡ c → r.target < 2 ^ 16 → NextSmall (successOf r)
-  next-small true c e d h = rw (is-line e) h
-  next-small false true e d h = rw (is-none e d) tt
-  next-small false false e d h = rw (is-section e d) (let n = eqb-false r.target mark d in omega (arith, n))
-
 code-small : (is : List ℕ) → All InsSmall (map wordIns is)
 code-small [] = tt
 code-small (i ∷ is) = (ins-small i, code-small is)
@@ -102,7 +75,7 @@ code-small (i ∷ is) = (ins-small i, code-small is)
 -- what is read fits its fields
 pub read-small : (ws is : List ℕ) → All SectSmall (readSections ws is)
 read-small [] is = rw read-nil tt
-read-small (w ∷ ws) is = rw read-cons ((next-small (wordRun w) _ _ refl refl (wordRun-small w).1.1.0, code-small (take (wordRun w).count is)), read-small ws (drop (countOf w) is))
+read-small (w ∷ ws) is = rw read-cons ((next-small (wordRun w) (wordRun-small w).1.1.0, code-small (take (wordRun w).count is)), read-small ws (drop (countOf w) is))
 
 same-run : {a b c d e a' b' c' d' e' : ℕ} → a ≡ a' → b ≡ b' → c ≡ c' → d ≡ d' → e ≡ e' → run a b c d e ≡ run a' b' c' d' e'
 same-run p q r s t = cc

@@ -91,6 +91,16 @@ module _ (r : Run) (k t : ℕ) (k-is : k ≡ r.kind) (t-is : t ≡ r.target) whe
   unfolding successOf isOne
   to-section e h = rw (← k-is, ne_eqb k 1 e, ← t-is, ne_eqb t mark h, successOf) (ap section t-is)
 
+module _ (r : Run) where
+  pub is-line : eqb r.kind 1 ≡ true → successOf r ≡ line r.target
+  is-line e = sym (to-line r r.kind r.target refl refl (eqb-true _ _ e))
+
+  pub is-none : eqb r.kind 1 ≡ false → eqb r.target mark ≡ true → successOf r ≡ unfixed
+  is-none e d = sym (to-none r r.kind r.target refl refl (eqb-false _ _ e) (eqb-true _ _ d))
+
+  pub is-section : eqb r.kind 1 ≡ false → eqb r.target mark ≡ false → successOf r ≡ section r.target
+  is-section e d = sym (to-section r r.kind r.target refl refl (eqb-false _ _ e) (eqb-false _ _ d))
+
 -- a word's successor is a line, none, or a section
 data Reads (r : Run) : Type 0 where
   a-line : r.kind ≡ 1 → successOf r ≡ line r.target → Reads r
@@ -101,9 +111,9 @@ reads : (r : Run) → Reads r
 reads r = by (eqb r.kind 1) (eqb r.target mark) refl refl
   where
     by : (a b : Bool) → eqb r.kind 1 ≡ a → eqb r.target mark ≡ b → Reads r
-    by true b e d = a-line (eqb-true _ _ e) (sym (to-line r r.kind r.target refl refl (eqb-true _ _ e)))
-    by false true e d = nothing (eqb-false _ _ e) (eqb-true _ _ d) (sym (to-none r r.kind r.target refl refl (eqb-false _ _ e) (eqb-true _ _ d)))
-    by false false e d = a-section (eqb-false _ _ e) (eqb-false _ _ d) (sym (to-section r r.kind r.target refl refl (eqb-false _ _ e) (eqb-false _ _ d)))
+    by true b e d = a-line (eqb-true _ _ e) (is-line r e)
+    by false true e d = nothing (eqb-false _ _ e) (eqb-true _ _ d) (is-none r e d)
+    by false false e d = a-section (eqb-false _ _ e) (eqb-false _ _ d) (is-section r e d)
 
 pub target-again : (r : Run) → targetOf (successOf r) ≡ r.target
 unfolding targetOf
@@ -114,30 +124,29 @@ target-again r = go (reads r)
     go (nothing k t e) = rw e (sym t)
     go (a-section k t e) = rw e
 
-module _ (r : Run) (h : RunSmall r) where
-  kind-again : kindOf (successOf r) ≡ r.kind
-  unfolding kindOf
-  kind-again = go (reads r)
-    where
-      go : Reads r → kindOf (successOf r) ≡ r.kind
-      go (a-line k e) = rw e (sym k)
-      go (nothing k t e) = rw e (let b = h.1.0 in omega (arith, k))
-      go (a-section k t e) = rw e (let b = h.1.0 in omega (arith, k))
+pub kind-again : (r : Run) → r.kind < 2 → kindOf (successOf r) ≡ r.kind
+unfolding kindOf
+kind-again r h = go (reads r)
+  where
+    go : Reads r → kindOf (successOf r) ≡ r.kind
+    go (a-line k e) = rw e (sym k)
+    go (nothing k t e) = rw e (omega (arith, k))
+    go (a-section k t e) = rw e (omega (arith, k))
 
-  pub next-small : NextSmall (successOf r)
-  next-small = go (reads r)
-    where
-      go : Reads r → NextSmall (successOf r)
-      go (a-line k e) = rw e h.1.1.0
-      go (nothing k t e) = rw e tt
-      go (a-section k t e) = rw e (let b = h.1.1.0 in omega (arith, t))
+pub next-small : (r : Run) → r.target < 2 ^ 16 → NextSmall (successOf r)
+next-small r h = go (reads r)
+  where
+    go : Reads r → NextSmall (successOf r)
+    go (a-line k e) = rw e h
+    go (nothing k t e) = rw e tt
+    go (a-section k t e) = rw e (omega (arith, t))
 
-  pub fields-again : runOf (isOne r.lineStart) (successOf r) r.first r.count ≡ r
-  fields-again = same (flag-again r.lineStart h.0) kind-again (target-again r)
-    where
-      same : {a k t a' k' t' : ℕ} → a ≡ a' → k ≡ k' → t ≡ t'
-          → ◌≡◌ {A = Run} (record { lineStart = a; kind = k; target = t; first = r.first; count = r.count }) (record { lineStart = a'; kind = k'; target = t'; first = r.first; count = r.count })
-      same p q s = cc
+pub fields-again : (r : Run) → RunSmall r → runOf (isOne r.lineStart) (successOf r) r.first r.count ≡ r
+fields-again r h = same (flag-again r.lineStart h.0) (kind-again r h.1.0) (target-again r)
+  where
+    same : {a k t a' k' t' : ℕ} → a ≡ a' → k ≡ k' → t ≡ t'
+        → ◌≡◌ {A = Run} (record { lineStart = a; kind = k; target = t; first = r.first; count = r.count }) (record { lineStart = a'; kind = k'; target = t'; first = r.first; count = r.count })
+    same p q s = cc
 
 -- the word of what was read of a word
 pub word-again : (w : ℕ) → w < 2 ^ 64 → runSpare w ≡ 0 → runWord (runOf (isOne (wordRun w).lineStart) (successOf (wordRun w)) (wordRun w).first (wordRun w).count) ≡ w

@@ -1,6 +1,6 @@
 -- The words of an instruction, a section and a string: what is packed is unpacked, and the reverse. Each cites the one law of Pack.
 -- Assumes nothing.
-use Rattle.std.specs.Prelude.{◌≡◌, List, [], ◌∷◌, ℕ, ◌^◌, ◌<◌, get_or}
+use Rattle.std.specs.Prelude.{◌≡◌, ℕ, ◌^◌, ◌<◌, get_or}
 use Rattle.rules.specs.Constants.{instrLayout, sectionLayout, stringLayout}
 use Rattle.rules.specs.Instr.{Instruction}
 use Rattle.rules.specs.Word.{unpack, insWord, wordIns, insSpare, Run, runWord, wordRun, runSpare, Span, spanWord, wordSpan, spanSpare}

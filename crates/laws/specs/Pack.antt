@@ -1,5 +1,5 @@
 -- Values that fit a layout of fields, and the fields of a word. Packing is pack of Word; proofs/Pack shows it and unpacking inverse.
-use Rattle.std.specs.Prelude.{List, [], ◌∷◌, ℕ, ◌*◌, ◌/◌, ◌%◌, ◌^◌, ◌<◌}
+use Rattle.std.specs.Prelude.{List, [], ◌∷◌, ℕ, ◌/◌, ◌%◌, ◌^◌, ◌<◌}
 use Rattle.rules.specs.Word.{width}
 
 -- each value lies below 2 ^ its width, and there are no more values than widths

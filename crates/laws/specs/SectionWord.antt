@@ -1,5 +1,5 @@
 -- When a successor fits a section's word.
-use Rattle.std.specs.Prelude.{ℕ, ◌^◌, ◌<◌}
+use Rattle.std.specs.Prelude.{◌^◌, ◌<◌}
 use Rattle.rules.specs.Constants.{mark}
 use Rattle.rules.specs.Machine.{SectionOrLine, unfixed, section, line}
 
