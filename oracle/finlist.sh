@@ -1,6 +1,6 @@
 #!/usr/bin/env bash
 # The program finlist beside the judge's: what both print for files, compared byte for byte.
-# Usage: oracle/finlist.sh record > crates/replay_finlist/stdin, which writes the judge's answers for the named files and for generated ones; or
+# Usage: oracle/finlist.sh record, the first lines of crates/replay_finlist/stdin, which writes the judge's answers for the named files and for generated ones; or
 # oracle/finlist.sh [SEED [TREES [DAMAGED]]], behind `rt run` in crates/finlist, which leaves crates/finlist/out/finlist (FINLIST names another program).
 # The named files are spelled here, field by field, as width:value; the others are generated. Exit status 1 where one differs, or where a named
 # file is not refused by the number that stands before it (0: it is not refused).
