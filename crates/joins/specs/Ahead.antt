@@ -65,6 +65,10 @@ module _ (m : List SectionCode) (i j : ℕ) (pr : Pair m i j) (up : i < j) where
       let k = before h r.from b.0 b.1 o in
       omega (arith, k, r.falls, b.2)
 
+-- the pair is enough for that: its second stands above its first
+pub forward-step : (m : List SectionCode) (i j : ℕ) → Pair m i j → Forward m → Forward (combineAt m i j)
+forward-step m i j pr h = forward-join m i j pr (let k = h i j pr.succ pr.inner in omega (arith, pr.apart)) h
+
 -- ---- 15
 
 module _ (m : List SectionCode) where

@@ -1,6 +1,6 @@
 -- Joins until no pair is left: what each join keeps, combining keeps, and it ends. `Ready` is what every join of a machine with L lines keeps:
 -- all sections are fixed, and the first L start lines.
-use Rattle.std.specs.Prelude.{◌≡◌, refl, List, [], ◌∷◌, map, ℕ, zero, suc, ◌≤◌, ◌<◌, length, get_or, set}
+use Rattle.std.specs.Prelude.{◌≡◌, refl, List, [], ◌∷◌, map, ℕ, zero, suc, ◌≤◌, ◌<◌, length, get_or, take, set}
 use Rattle.std.proofs.Common.{sym, ap, ◌∙◌, ◌⊎◌, inl, inr, le_of_suc-le-suc, not-suc-le-zero, arith}
 use Rattle.std.proofs.lemmas.Bool.{false≢true}
 use Rattle.std.proofs.Math.Bool.{true}
@@ -10,8 +10,8 @@ use Rattle.rules.specs.Machine.{SectionOrLine, unfixed, section, line, SectionCo
 use Rattle.rules.specs.Clean.{renNext, ren}
 use Rattle.rules.specs.Combine.{without, pair, combineAt, combineFuel, combineSections}
 use Rattle.joins.specs.Numbers.{lt-or-le, fall-low}
-use Rattle.joins.specs.Pairs.{Pair, pair-found}
-use Rattle.joins.specs.Joins.{Joint, Taken, second-in, start-join, length-join}
+use Rattle.joins.specs.Pairs.{Pair, pair-found, fuel-none}
+use Rattle.joins.specs.Joins.{Joint, Taken, first-in, second-in, start-join, length-join}
 
 -- ---- all sections fixed
 
@@ -43,6 +43,11 @@ fixed-without [] n f = f
 fixed-without (x ∷ l) zero f = f.1
 fixed-without (x ∷ l) (suc n) f = (f.0, fixed-without l n f.1)
 
+pub fixed-take : (n : ℕ) (l : List SectionCode) → Fixed l → Fixed (take n l)
+fixed-take zero l f = tt
+fixed-take (suc n) [] f = tt
+fixed-take (suc n) (s ∷ l) f = (f.0, fixed-take n l f.1)
+
 -- ---- a machine of L lines
 
 pub record Ready (L : ℕ) (m : List SectionCode) : Type 0 where
@@ -58,6 +63,10 @@ module _ (L : ℕ) where
         go : (j < L) ⊎ (L ≤ j) → L ≤ j
         go (inl h) = absurd (false≢true (sym pr.inner ∙ ready.starts j h))
         go (inr h) = h
+
+    -- and both are there
+    pub pair-below : (i < length m) × (j < length m) × (L ≤ j)
+    pair-below = (first-in m i j pr, second-in m i j pr, behind-lines)
 
     pub join-ready : Ready L (combineAt m i j)
     unfolding combineAt
@@ -101,3 +110,8 @@ none-left (suc k) m h = go (pair m) refl (λ n l. none-left k n l)
 pub combine-ends : (m : List SectionCode) → pair (combineSections m) ≡ none
 unfolding combineSections
 combine-ends m = none-left (length m) m (omega arith)
+
+-- a machine without a pair stays as it is
+pub combine-stays : (m : List SectionCode) → pair m ≡ none → combineSections m ≡ m
+unfolding combineSections
+combine-stays m e = fuel-none m (length m) e

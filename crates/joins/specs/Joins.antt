@@ -22,6 +22,9 @@ start-set (s ∷ m) zero (suc t) b = refl
 start-set (s ∷ m) (suc i) zero b = refl
 start-set (s ∷ m) (suc i) (suc t) b = start-set m i t b
 
+unfixed≢section : (t : ℕ) → unfixed ≡ section t → ⊥
+unfixed≢section t e = let z : ◌≡◌ {A = ℕ} 0 1 = cc in omega arith
+
 module _ (m : List SectionCode) (i j : ℕ) (pr : Pair m i j) where
   -- both are there
   pub second-in : j < length m
@@ -36,7 +39,7 @@ module _ (m : List SectionCode) (i j : ℕ) (pr : Pair m i j) where
     where
       go : (i < length m) ⊎ (length m ≤ i) → i < length m
       go (inl h) = h
-      go (inr h) = let z : unfixed ≡ section j = sym (ap (λ (s : SectionCode). s.success) (get_or-eq_default m absent h)) ∙ pr.succ in let q : ◌≡◌ {A = ℕ} 0 1 = cc in absurd (omega arith)
+      go (inr h) = absurd (unfixed≢section j (sym (ap (λ (s : SectionCode). s.success) (get_or-eq_default m absent h)) ∙ pr.succ))
 
   -- ---- who refers to j: S1 as its successor, and nothing else
 

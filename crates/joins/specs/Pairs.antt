@@ -26,18 +26,20 @@ mate-is m i j (section u) e = go (mayTake m i u) refl e
     go false h k = let z : ◌≡◌ {A = ℕ} 0 1 = cc in absurd (omega arith)
 mate-is m i j (line r) e = let z : ◌≡◌ {A = ℕ} 0 1 = cc in absurd (omega arith)
 
--- a section that may take j in makes a pair with it
-pub to-pair : (m : List SectionCode) (i j : ℕ) → mate m i (get_or m i absent).success ≡ some j → Pair m i j
-to-pair m i j e =
-    let t = mate-is m i j (get_or m i absent).success e in
-    let p = both (not (eqb i j)) (not (get_or m j absent).lineStart && eqb (refs j m) 1) t.1 in
+-- a section that may take its successor in makes a pair with it
+pub pair-of : (m : List SectionCode) (i j : ℕ) → (get_or m i absent).success ≡ section j → mayTake m i j ≡ true → Pair m i j
+pair-of m i j e h =
+    let p = both (not (eqb i j)) (not (get_or m j absent).lineStart && eqb (refs j m) 1) h in
     let q = both (not (get_or m j absent).lineStart) (eqb (refs j m) 1) p.1 in
     record {
-      succ = t.0;
+      succ = e;
       apart = eqb-false i j (not-true (eqb i j) p.0);
       inner = not-true (get_or m j absent).lineStart q.0;
       once = eqb-true (refs j m) 1 q.1;
     }
+
+pub to-pair : (m : List SectionCode) (i j : ℕ) → mate m i (get_or m i absent).success ≡ some j → Pair m i j
+to-pair m i j e = let t = mate-is m i j (get_or m i absent).success e in pair-of m i j t.0 t.1
 
 -- ---- the search
 

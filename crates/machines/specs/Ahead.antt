@@ -120,6 +120,9 @@ lower-ahead t =
 
 -- ---- ranks grow
 
+keep-cons : (s : SectionCode) (l : List SectionCode) → keep (s ∷ l) ≡ cond (isFixed s.success) (s ∷ keep l) (keep l)
+keep-cons s l = refl
+
 kept-grow : (m : List SectionCode) (v u : ℕ) → v ≤ u → length (keep (take v m)) ≤ length (keep (take u m))
 kept-grow m zero u h = omega arith
 kept-grow m (suc v) zero h = absurd (not-suc-le-zero h)

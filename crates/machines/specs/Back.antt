@@ -9,7 +9,7 @@ use Rattle.rules.specs.Tree.{Tree}
 use Rattle.rules.specs.Parse.{parse}
 use Rattle.rules.specs.Instr.{Instruction, kinds}
 use Rattle.laws.specs.Lists.{all-left, all-right}
-use Rattle.laws.proofs.SectionWord.{flag-back, next-back, fields-back}
+use Rattle.laws.proofs.SectionWord.{flag-back, next-back}
 use Rattle.laws.proofs.Words as Words
 use Rattle.rules.specs.Word.{insWord, wordIns, Run, Span, spanWord, wordSpan}
 use Rattle.rules.specs.Machine.{SectionOrLine, SectionCode, Machine}
@@ -18,14 +18,17 @@ use Rattle.rules.specs.Operations.{sizeOf, estimate, holds, put, write, build}
 use Rattle.rules.specs.Preservation.{All}
 use Rattle.bounds.proofs.Estimate.{codeLen, code-length}
 use Rattle.bounds.specs.Parsed.{refused≢ok}
-use Rattle.machines.specs.Fits.{Held, Counted, SectFit, SpanFit, AllAt, MachineFit, InTables, tables-fit, ins-small, next-small}
+use Rattle.machines.specs.Fits.{Held, Counted, SectFit, SpanFit, AllAt, MachineFit, InTables, tables-fit, ins-small, next-small, section-back}
 use Rattle.laws.specs.Sections.{words-length}
 
 -- ---- instructions, sections, strings
 
+held-back : (u : Counts) → Counted u → (i : Instruction) → Held u (kinds i.op) i → wordIns (insWord i) ≡ i
+held-back u c i h = Words.ins-back i (ins-small u c i h)
+
 code-back : (u : Counts) → Counted u → (c : List Instruction) → All (λ (i : Instruction). Held u (kinds i.op) i) c → map wordIns (map insWord c) ≡ c
 code-back u c [] h = refl
-code-back u c (i ∷ l) h = rw (Words.ins-back i (ins-small u c i h.0), code-back u c l h.1)
+code-back u c (i ∷ l) h = rw (held-back u c i h.0, code-back u c l h.1)
 
 abbrev sectOf : Bool → List Instruction → SectionOrLine → SectionCode
 sectOf a c x = record { lineStart = a; instrs = c; success = x }
@@ -43,7 +46,7 @@ sections-back u c i k (s ∷ ss) f h e =
     let n = length s.instrs in
     let rest = allCode ss in
     let is = map insWord (s.instrs ++ rest) in
-    let back = fields-back s.lineStart s.success k (length s.instrs) (next-small u c s.success f.0.success) (omega arith) (omega arith) in
+    let back = section-back u c i s k f.0 (omega arith) (omega arith) in
     let two : is ≡ map insWord s.instrs ++ map insWord rest = map-append insWord s.instrs rest in
     let l : length (map insWord s.instrs) ≡ n = length-map s.instrs insWord in
     let t : take n is ≡ map insWord s.instrs = ap (take n) two ∙ take_at (map insWord s.instrs) (map insWord rest) n l in

@@ -1,5 +1,5 @@
 -- Which machines, written as words, keep the rules of machine words.
-use Rattle.std.specs.Prelude.{◌≡◌, refl, Bool, not, ◌&&◌, ◌||◌, ℕ, suc, ◌+◌, ◌≤◌, ◌<◌, ltb, eqb, length, take}
+use Rattle.std.specs.Prelude.{◌≡◌, refl, Bool, not, ◌&&◌, ◌||◌, ℕ, zero, suc, ◌+◌, ◌≤◌, ◌<◌, ltb, eqb, length, take}
 use Rattle.std.proofs.Common.{ap₂, ◌∙◌, arith, length-take, take_all, ltb-true, ltb-false, lt-ltb, eq-eqb, le-leb}
 use Rattle.std.proofs.Math.Path.{ap}
 use Rattle.std.proofs.Math.Bool.{true, false}
@@ -11,9 +11,9 @@ use Rattle.rules.specs.Bits.{isOne}
 use Rattle.rules.specs.Instr.{Row, Instruction, Kind, unused, num, str, val, place, table, kinds}
 use Rattle.laws.specs.Table.{opcode-bits}
 use Rattle.laws.specs.Words.{InsSmall}
-use Rattle.laws.proofs.Words.{ins-back, ins-zeros}
+use Rattle.laws.proofs.Words.{ins-back}
 use Rattle.laws.specs.SectionWord.{NextSmall}
-use Rattle.laws.proofs.SectionWord.{flag-back, next-back, fields-back, zeros-back}
+use Rattle.laws.proofs.SectionWord.{flag-back, next-back, fields-back}
 use Rattle.rules.specs.Word.{unpack, insWord, insSpare, Run, runWord, wordRun, runSpare, Span, spanWord, wordSpan, spanSpare}
 use Rattle.rules.specs.Constants.{stringLayout, mostCount, mostLines, mostChars}
 use Rattle.rules.specs.Machine.{SectionOrLine, unfixed, section, line, SectionCode, isFixed, Machine}
@@ -67,6 +67,11 @@ field-small u c str n h = omega (arith, h.0, c.strings)
 field-small u c val n h = omega (arith, h.0, c.values)
 field-small u c place n h = omega (arith, h.1 refl, c.sections)
 
+at-lt : {A : Type 0} (l : List A) (o : ℕ) (k : A) → get_elem? l o ≡ some k → o < length l
+at-lt [] o k e = absurd (let z : ◌≡◌ {A = ℕ} 0 1 = cc in omega arith)
+at-lt (x ∷ l) zero k e = omega arith
+at-lt (x ∷ l) (suc o) k e = omega (arith, at-lt l o k e)
+
 -- An opcode's kinds stand in its row.
 pub row-of : (o : ℕ) (k : Kind × Kind × Kind) → kinds o ≡ some k → (r : Row) × (get_elem? table o ≡ some r) × (r.kinds ≡ k)
 unfolding kinds table
@@ -75,6 +80,11 @@ row-of o k e = go (get_elem? table o) refl e
     go : (x : Option Row) → get_elem? table o ≡ x → ◌≡◌ {A = Option (Kind × Kind × Kind)} (elim x [ none ↦ none | some r ↦ some r.kinds ]) (some k) → (r : Row) × (get_elem? table o ≡ some r) × (r.kinds ≡ k)
     go none p q = absurd (let z : ◌≡◌ {A = ℕ} 0 1 = cc in omega arith)
     go (some r) p q = (r, p, cc)
+
+-- Whatever the fields are, the bits that must be zero are.
+low-zero : (i : Instruction) → insSpare (insWord i) ≡ 0
+unfolding insWord insSpare
+low-zero i = omega arith
 
 -- What an instruction's three fields hold.
 abbrev pub Held : Counts → Option (Kind × Kind × Kind) → Instruction → Type 0
@@ -99,9 +109,13 @@ ins-fits u c i h = go (kinds i.op) refl h
         let z = eqb (insSpare (insWord i)) 0 in
         ap (λ (j : Instruction). elim (kinds j.op) [ none ↦ false | some l ↦ z && fieldFits u l.0 j.fst && fieldFits u l.1 j.snd && fieldFits u l.2 j.thd ]) (ins-back i (ins-small u c i h))
         ∙ (ap (λ (x : Option (Kind × Kind × Kind)). elim x [ none ↦ false | some l ↦ z && fieldFits u l.0 i.fst && fieldFits u l.1 i.snd && fieldFits u l.2 i.thd ]) e
-        ∙ both_true (both_true (both_true (eq-eqb (insSpare (insWord i)) 0 (ins-zeros i (ins-small u c i h))) (field-fits u k.0 i.fst q.0)) (field-fits u k.1 i.snd q.1)) (field-fits u k.2 i.thd q.2))
+        ∙ both_true (both_true (both_true (eq-eqb (insSpare (insWord i)) 0 (low-zero i)) (field-fits u k.0 i.fst q.0)) (field-fits u k.1 i.snd q.1)) (field-fits u k.2 i.thd q.2))
 
 -- ---- sections
+
+run-zero : (r : Run) → runSpare (runWord r) ≡ 0
+unfolding runWord runSpare
+run-zero r = omega arith
 
 -- A successor that is there.
 abbrev pub NextFit : Counts → SectionOrLine → Type 0
@@ -128,6 +142,9 @@ pub next-small : (u : Counts) → Counted u → (x : SectionOrLine) → NextFit 
 next-small u c unfixed h = tt
 next-small u c (section t) h = omega (arith, c.sections)
 next-small u c (line r) h = omega (arith, c.numbers)
+
+pub section-back : (u : Counts) → Counted u → (i : ℕ) (s : SectionCode) (k : ℕ) → SectFit u i s → k ≤ mostCount → length s.instrs ≤ mostCount → wordRun (runWord (sectionRun s k)) ≡ sectionRun s k
+section-back u c i s k f p q = fields-back s.lineStart s.success k (length s.instrs) (next-small u c s.success f.success) (omega arith) (omega arith)
 
 next-fits : (u : Counts) (x : SectionOrLine) → NextFit u x → successFits u x ≡ true
 unfolding successFits
@@ -163,13 +180,13 @@ runs-fit u c i k (s ∷ ss) h e =
     ∙ runs-fit u c (suc i) (k + length s.instrs) ss h.1 (omega arith))
   where
     back-of : wordRun (runWord (sectionRun s k)) ≡ sectionRun s k
-    back-of = fields-back s.lineStart s.success k (length s.instrs) (next-small u c s.success h.0.success) (omega (arith, c.instrs)) (omega (arith, c.instrs))
+    back-of = section-back u c i s k h.0 (omega (arith, c.instrs)) (omega (arith, c.instrs))
 
     tested : (eqb (runSpare (runWord (sectionRun s k))) 0 && eqb (sectionRun s k).first k && successFits u (successOf (sectionRun s k)) && startFits u i (sectionRun s k)) ≡ true
     tested =
         let r = sectionRun s k in
         both_true
-        (both_true (both_true (eq-eqb (runSpare (runWord r)) 0 (zeros-back s.lineStart s.success k (length s.instrs) (next-small u c s.success h.0.success) (omega (arith, c.instrs)) (omega (arith, c.instrs)))) (eq-eqb k k refl)) (ap (successFits u) (next-back s.success (flag s.lineStart) k (length s.instrs) (next-small u c s.success h.0.success)) ∙ next-fits u s.success h.0.success))
+        (both_true (both_true (eq-eqb (runSpare (runWord r)) 0 (run-zero r)) (eq-eqb k k refl)) (ap (successFits u) (next-back s.success (flag s.lineStart) k (length s.instrs) (next-small u c s.success h.0.success)) ∙ next-fits u s.success h.0.success))
         (start-fits u c i s k h.0)
 
 -- ---- strings, counts, all

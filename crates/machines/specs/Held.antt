@@ -50,12 +50,17 @@ not-place str h q = not-both true refl (sym q)
 not-place val h q = not-both true refl (sym q)
 not-place place h q = not-both true refl (sym h)
 
+three : (a b c : Bool) → (a && b && c) ≡ true → (a ≡ true) × (b ≡ true) × (c ≡ true)
+three a b c e =
+    let p = both (a && b) c e in
+    let q = both a b p.0 in
+    (q.0, q.1, p.1)
+
 held-other : (u : Counts) (i : Instruction) (k : Option (Kind × Kind × Kind)) → ((l : Kind × Kind × Kind) → k ≡ some l → noPlace l ≡ true) → FieldsBelow u k i → Held u k i
 held-other u i none n f = f
 held-other u i (some k) n f =
-    let p = both (not (isPlace k.0) && not (isPlace k.1)) (not (isPlace k.2)) (n k refl) in
-    let q = both (not (isPlace k.0)) (not (isPlace k.1)) p.0 in
-    ((f.0, λ r. absurd (not-place k.0 q.0 r)), (f.1, λ r. absurd (not-place k.1 q.1 r)), (f.2, λ r. absurd (not-place k.2 p.1 r)))
+    let t = three (not (isPlace k.0)) (not (isPlace k.1)) (not (isPlace k.2)) (n k refl) in
+    ((f.0, λ r. absurd (not-place k.0 t.0 r)), (f.1, λ r. absurd (not-place k.1 t.1 r)), (f.2, λ r. absurd (not-place k.2 t.2 r)))
 
 held : (u : Counts) (i : Instruction) → RegistersBelow u (shown i) → JumpBelow u.sections i → Held u (kinds i.op) i
 held u i r j = go (isJump i) refl

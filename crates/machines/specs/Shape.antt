@@ -1,6 +1,6 @@
 -- Cleaned and combined machines: their targets are there, and only the lines' first sections start lines.
-use Rattle.std.specs.Prelude.{◌≡◌, refl, Bool, true, false, cond, not, ◌&&◌, ◌||◌, List, [], ◌∷◌, ◌++◌, map, ℕ, suc, ◌+◌, ◌-◌, ◌≤◌, ◌<◌, eqb, length, get_or, set}
-use Rattle.std.proofs.Common.{sym, ap, ◌∙◌, subst, arith, length-append, get_or-append-add}
+use Rattle.std.specs.Prelude.{◌≡◌, refl, Bool, true, false, cond, not, ◌&&◌, ◌||◌, List, [], ◌∷◌, ◌++◌, map, ℕ, zero, suc, ◌+◌, ◌-◌, ◌≤◌, ◌<◌, eqb, length, get_or, set}
+use Rattle.std.proofs.Common.{sym, ap, ◌∙◌, subst, le_of_suc-le-suc, not-suc-le-zero, arith, length-append, get_or-append-add}
 use Rattle.std.proofs.lemmas.List.{length-map, map-append}
 use Rattle.rules.specs.Instr.{fall, Instruction, isJump}
 use Rattle.rules.specs.Machine.{SectionOrLine, unfixed, section, line, SectionCode, absent, isFixed}
@@ -12,9 +12,9 @@ use Rattle.rules.specs.Preservation.{All}
 use Rattle.bounds.specs.Lengths.{heads-length}
 use Rattle.joins.specs.References.{no-hit}
 use Rattle.joins.specs.Numbers.{fall-below}
-use Rattle.joins.specs.Along.{Ready, behind-lines, combine-along}
+use Rattle.joins.specs.Along.{Ready, pair-below, combine-along}
 use Rattle.joins.specs.Pairs.{Pair}
-use Rattle.joins.specs.Joins.{came, Stands, joint, other, stands, clear-at, first-in, second-in, length-join}
+use Rattle.joins.specs.Joins.{came, Stands, joint, other, stands, clear-at, length-join}
 use Rattle.machines.specs.Fits.{AllAt}
 use Rattle.machines.specs.Targets.{JumpBelow, NextBelow, Aims, Loose, tails-loose}
 use Rattle.laws.specs.Lists.{all-append, all-of, all-at}
@@ -26,6 +26,11 @@ pub numbered : (P : ℕ → SectionCode → Type 0) (i : ℕ) (l : List SectionC
 numbered P i [] h = tt
 numbered P i (s ∷ l) h =
     (subst (λ (n : ℕ). P n s) (omega arith) (h 0 (omega arith)), numbered P (suc i) l (λ t p. subst (λ (n : ℕ). P n (get_or l t absent)) (omega arith) (h (suc t) (omega arith))))
+
+pub at-of : (P : ℕ → SectionCode → Type 0) (i : ℕ) (l : List SectionCode) → AllAt P i l → (t : ℕ) → t < length l → P (i + t) (get_or l t absent)
+at-of P i [] h t p = absurd (not-suc-le-zero p)
+at-of P i (s ∷ l) h zero p = subst (λ (n : ℕ). P n s) (omega arith) h.0
+at-of P i (s ∷ l) h (suc t) p = subst (λ (n : ℕ). P n (get_or l t absent)) (omega arith) (at-of P (suc i) l h.1 t (le_of_suc-le-suc p))
 
 -- ---- targets, when j falls out
 
@@ -57,7 +62,7 @@ module _ (L : ℕ) (pos : 0 < L) where
       is-n = length-join m i j pr
 
       b : (i < length m) × (j < length m) × (L ≤ j)
-      b = (first-in m i j pr, second-in m i j pr, behind-lines L m r i j pr)
+      b = pair-below L m r i j pr
 
       old : (v : ℕ) → v < length m → Aims (length m) (get_or m v absent)
       old v p = all-at (Aims (length m)) absent m h v p

@@ -19,9 +19,9 @@ use Rattle.rules.specs.Combine.{without, joined, combineAt, combineSections, com
 use Rattle.rules.specs.Lowered.{Options, texts, lowered, finished}
 use Rattle.rules.specs.Preservation.{All, RegistersBelow}
 use Rattle.machines.specs.Ranks.{clean-ready}
-use Rattle.joins.specs.Along.{Ready, behind-lines, combine-along, combine-ready}
+use Rattle.joins.specs.Along.{Ready, pair-below, combine-along, combine-ready}
 use Rattle.joins.specs.Pairs.{Pair}
-use Rattle.joins.specs.Joins.{first-in, second-in, length-join}
+use Rattle.joins.specs.Joins.{length-join}
 use Rattle.machines.specs.Lowered.{lower-fixed, lower-starts}
 use Rattle.machines.specs.FinishedCode.{lower-good, clean-good, combined-good}
 use Rattle.bounds.specs.Room.{Room, roomOf, NameBelow}
@@ -77,7 +77,7 @@ pub record Sizes (L n c : ℕ) (m : List SectionCode) : Type 0 where
 counts-step : (L : ℕ) (pos : 0 < L) (n c : ℕ) (m : List SectionCode) → Ready L m → (i j : ℕ) → Pair m i j → Sizes L n c m → Sizes L n c (combineAt m i j)
 unfolding combineAt
 counts-step L pos n c m r i j pr k =
-    let b : (i < length m) × (j < length m) × (L ≤ j) = (first-in m i j pr, second-in m i j pr, behind-lines L m r i j pr) in
+    let b = pair-below L m r i j pr in
     let l = length-join m i j pr in
     let J = joined (get_or m i absent) (get_or m j absent) in
     let s = set m i J in

@@ -1,6 +1,6 @@
 -- Preservation of every tree that is parsed.
 use Rattle.std.specs.Prelude.{◌≡◌, get_or}
-use Rattle.std.proofs.Math.Path.{ap}
+use Rattle.std.proofs.Math.Path.{sym, ap}
 use Rattle.std.proofs.Common.{arith}
 use mathlib.Core.List.{List}
 use Prim.Native.Nat.{ℕ, ◌<◌}
@@ -10,12 +10,13 @@ use Rattle.rules.specs.Machine.{SectionOrLine, unfixed, section, line, absent}
 use Rattle.rules.specs.Tables.{Counts, countsOf}
 use Rattle.rules.specs.Script.{Script}
 use Rattle.rules.specs.CodegenData.{CodegenData}
+use Rattle.rules.specs.Annotate.{annotate}
 use Rattle.rules.specs.Assemble.{sectionsOf}
 use Rattle.rules.specs.Replace.{Regs, replaceSections}
 use Rattle.rules.specs.Reading.{repScript, script, reading}
 use Rattle.rules.specs.Clean.{cleanSections}
 use Rattle.rules.specs.Combine.{combineSections}
-use Rattle.rules.specs.Lowered.{Options, finished}
+use Rattle.rules.specs.Lowered.{Options, assemble, finished}
 use Rattle.rules.specs.Walk.{walk, enters, entered}
 use Rattle.rules.specs.Preservation.{All, Preserves, RegistersBelow, GotoBelow}
 use Rattle.walks.specs.Claim.{PreservesScript}
@@ -24,6 +25,8 @@ use Rattle.bounds.specs.Room.{Room, roomOf}
 use Rattle.bounds.specs.Own.{Whole, whole-grows}
 use Rattle.bounds.proofs.Own.{annotate-made}
 use Rattle.bounds.specs.Quiet.{script-good, tree-good}
+use Rattle.walks.specs.Codegen.{codegen}
+use Rattle.walks.proofs.CodegenProof.{codegen-is}
 use Rattle.walks.proofs.FinishWalk.{preservation-replaced}
 use Rattle.laws.specs.Lists.{all-map}
 use Rattle.laws.specs.Texts.{length-spans}
@@ -31,6 +34,11 @@ use Rattle.bounds.proofs.Stay as Stay
 use Rattle.rules.specs.Bits.{ok}
 use Rattle.rules.specs.Parse.{parse}
 use Rattle.bounds.specs.Parsed.{some-line}
+
+-- The assembled sections are those that codegen.rs's steps make: pushed, linked afterwards, and swapped.
+pub assembled-by-steps : (o : Options) (t : Tree) → (assemble o t).sections ≡ codegen (annotate t).0
+unfolding assemble
+assembled-by-steps o t = sym (codegen-is (annotate t).0)
 
 goto-below : (u : Counts) (x : SectionOrLine) → NextGood (λ r. r < u.numbers) x → GotoBelow u x
 goto-below u unfixed h = h

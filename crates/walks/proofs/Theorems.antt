@@ -23,7 +23,6 @@ use Rattle.rules.specs.Preservation.{SameWalk, Preserves}
 use Rattle.walks.specs.Claim.{Alike}
 use Rattle.walks.specs.Walks.{same-walk}
 use Rattle.walks.specs.Codegen.{codegen}
-use Rattle.walks.proofs.CodegenProof.{codegen-is}
 use Rattle.joins.specs.Along.{Ready, combine-ends}
 use Rattle.joins.specs.Pairs.{Pair}
 use Rattle.walks.specs.CombineWalk.{join-keeps, combine-keeps}
@@ -80,8 +79,7 @@ module _ (o : Options) (s : List ℕ) (t : Tree) (accepted : parse s ≡ ok t) w
 
   -- makes the sections that codegen.rs makes,
   pub lowered-by-codegen : (assemble o t).sections ≡ codegen (annotate t).0
-  unfolding assemble
-  lowered-by-codegen = sym (codegen-is (annotate t).0)
+  lowered-by-codegen = Proof.assembled-by-steps o t
 
   -- keeps within the estimates,
   pub lowered-estimated : WithinEstimate (countsOf (lowered o t)) (estimate (sizeOf t))

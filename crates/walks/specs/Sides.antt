@@ -9,7 +9,7 @@ use Rattle.std.proofs.lemmas.List.{length-map}
 use Rattle.rules.specs.Instr.{Instruction, isJump, shown}
 use Rattle.rules.specs.Machine.{SectionCode, absent}
 use Rattle.rules.specs.Walk.{atJump, atGoto, lost, Step, to, done, over, Leg, pre, onto, run, State, Trace, enter, stepSection, enters, walkSections}
-use Rattle.rules.specs.Script.{Stmts, nil, plain, goto, ite, Script}
+use Rattle.rules.specs.Script.{Stmts, nil, plain, goto, ite, Script, isNil}
 use Rattle.rules.specs.Assemble.{condJump, nextLine}
 use Rattle.rules.specs.ReadScript.{Out, behind, erred, gone, stop, thenOn, andThen, readOwn, readGoto, readIf, readCond, read, onward, stepLine, readScript, readIns}
 use Rattle.rules.specs.Preservation.{Walk, All, prune}
@@ -48,6 +48,12 @@ module _ (m : List SectionCode) (L : ℕ) where
   safe-enters os safe k = enters-in k (0, os) safe
 
 -- ---- what stands behind a goto is not read
+
+prune-nil : (s : Stmts) → isNil (prune s) ≡ isNil s
+prune-nil nil = refl
+prune-nil (plain o s) = refl
+prune-nil (goto o r s) = refl
+prune-nil (ite o c t u s) = refl
 
 then-ext : (x : List Instruction × Out) (f g : List ℕ → List Instruction × Out) → ((os : List ℕ) → f os ≡ g os) → andThen x f ≡ andThen x g
 then-ext x f g h = go x.1
