@@ -1,12 +1,9 @@
 -- Lower and finish, where they do not refuse: the tables hold the tree's machine, whose walk preserves the tree's reading.
 use Rattle.std.specs.Prelude.{◌≡◌, List, ℕ}
 use Rattle.rules.specs.Bits.{ok}
-use Rattle.rules.specs.Tree.{Tree}
-use Rattle.rules.specs.Parse.{parse}
-use Rattle.rules.specs.Tables.{Tables, Counts, countsOf, decode}
+use Rattle.rules.specs.Tables.{Tables, Counts}
 use Rattle.rules.specs.Lowered.{Options, lowered, finished}
 use Rattle.rules.specs.Operations.{lower, finish}
-use Rattle.rules.specs.Preservation.{Preserves}
 use Rattle.walks.proofs.PreservationProof.{preservation}
 use Rattle.machines.specs.Back.{built}
 use Rattle.machines.specs.TreeFits.{lowered-fit, finished-fit}
