@@ -98,6 +98,15 @@ begin-reads s a x e = go (ltb a.nodes mostNodes) refl e
         z
         (record { nodes = omega arith; most = λ h. omega (arith, ltb-true a.nodes mostNodes p); chars = omega arith; inside = λ h. h })
 
+-- m, then f: what both count.
+seq-reads : {A B : Type 0} (m : Reader A) (f : A → Reader B) (s : List ℕ) (a : At) (x : B × At) (j k : Tally)
+    → ((y : A × At) → m s a ≡ ok y → Reads s j a y.1)
+    → ((v : A) (b : At) → m s a ≡ ok (v, b) → f v s b ≡ ok x → Reads s k b x.1)
+    → (m >>= f) s a ≡ ok x → Reads s (both j k) a x.1
+seq-reads m f s a x j k hm hf e =
+    let p = passed m f s a x e in
+    reads-seq s j k a p.at x.1 (hm (p.val, p.at) p.here) (hf p.val p.at p.here p.follows)
+
 pub operator-reads : {A : Type 0} (w : ℕ) (ops : List A) (s : List ℕ) (a : At) (x : A × At) → operator w ops s a ≡ ok x → Reads s Tree.emptyTally a x.1
 unfolding operator refuse
 operator-reads {A} w ops s a x e =
