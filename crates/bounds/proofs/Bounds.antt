@@ -1,12 +1,10 @@
 -- The counts of a parsed tree's machine lie below 65,535.
-use Rattle.std.specs.Prelude.{◌≡◌, refl, List, [], ◌∷◌, ℕ, ◌+◌, ◌*◌, ◌≤◌, ◌<◌}
+use Rattle.std.specs.Prelude.{◌≡◌, List, ℕ}
 use Rattle.std.proofs.Common.{arith}
-use Rattle.rules.specs.Constants.{mostNodes, mostLines, mostNames, numbersANode, instrsANode, sectionsAStatement}
 use Rattle.rules.specs.Bits.{ok}
-use Rattle.rules.specs.Tree.{Tree, Expr, Block, Tally, both, node, statement, ofExpr, ofBlock, ofLines, binop, unop, ident, number, string, goto, ite, assign, end}
-use Rattle.rules.specs.Tree as Tree
+use Rattle.rules.specs.Tree.{Tree}
 use Rattle.rules.specs.Parse.{parse}
-use Rattle.rules.specs.Tables.{Counts, countsOf}
+use Rattle.rules.specs.Tables.{countsOf}
 use Rattle.rules.specs.Annotate.{fresh}
 use Rattle.rules.specs.Lowered.{Options, lowered}
 use Rattle.rules.specs.Operations.{sizeOf, estimate}

@@ -1,21 +1,20 @@
 -- Lowering's operators: what each makes and costs.
-use Rattle.std.specs.Prelude.{◌≡◌, Bool, List, [], ◌∷◌, ◌++◌, ℕ, zero, suc, ◌+◌, ◌≤◌, ◌<◌, ℤ, pos, get_or}
+use Rattle.std.specs.Prelude.{◌≡◌, Bool, ℕ, ◌≤◌, ◌<◌, pos}
 use Rattle.std.proofs.Math.Path.{refl}
-use Rattle.std.proofs.Common.{sym, arith, length-append}
+use Rattle.std.proofs.Common.{sym, arith}
 use Rattle.std.proofs.Math.Bool.{true, false}
-use Rattle.std.proofs.Math.Option.{Option, none, some}
+use Rattle.std.proofs.Math.Option.{some}
 use Rattle.std.proofs.Math.ListN.{length}
 use Rattle.rules.specs.Opcode as Op
 use Rattle.rules.specs.Tree.{Binop, Unop}
 use Rattle.rules.specs.Tree.{And, Or, Add, Sub, Mul, Div, Mod, Pow, Eq, Ne, Le, Lt, Ge, Gt}
 use Rattle.rules.specs.Tree.{Neg, Not, Abs, Sqrt, Fact, Sin, Cos, Tan, Asin, Acos, Atan}
-use Rattle.rules.specs.Instr.{canRuntimeErr, ins₁, ins₂, ins₃, Kind, unused, num, val, place, kinds}
+use Rattle.rules.specs.Instr.{canRuntimeErr, ins₁, ins₂, ins₃, unused, num, val, kinds}
 use Rattle.rules.specs.Replace.{rules, lookup}
-use Rattle.rules.specs.CodegenData.{CodegenData, emit, newNum, newVal, bindName}
-use Rattle.rules.specs.Operators.{errorJump, getVariable, copyValreg, makeTruthy, numberify, makeVal, makeLogicBinop, guard, makeArithBinop, makeCmpBinop, makeNe, applyInPlace, applyBinop, makeNot, applyInNumber, applyUnop, incdecOp, codegenIncdec}
-use Rattle.rules.specs.Preservation.{All, FieldBelow}
-use Rattle.bounds.specs.Room.{adds, Ok, ok₁, ok₂, ok₃, field-grows, roomOf, NameBelow, Fine, Cost, cost, Went, seq, Most, within, room, went-here, went-emit, went-num, went-val, went-bind}
-use Rattle.bounds.specs.Steps.{MadeVal, MadeNum, last, value-made, truthy-made, ok-error, numberify-made, numbered-made}
+use Rattle.rules.specs.CodegenData.{CodegenData, emit, newNum}
+use Rattle.rules.specs.Operators.{errorJump, getVariable, makeTruthy, numberify, makeLogicBinop, guard, makeArithBinop, makeCmpBinop, makeNe, applyInPlace, applyBinop, makeNot, applyInNumber, applyUnop, incdecOp, codegenIncdec}
+use Rattle.bounds.specs.Room.{adds, Ok, ok₁, ok₂, ok₃, roomOf, Fine, Cost, cost, Went, seq, Most, within, went-here, went-emit, went-num}
+use Rattle.bounds.specs.Steps.{MadeVal, last, value-made, truthy-made, ok-error, numberify-made, numbered-made}
 
 cheap : {a b : Cost} → a.n ≤ b.n → a.k ≤ b.k → a.v ≤ b.v → a.s ≡ b.s → a.p ≡ b.p → Most a b
 cheap n k v s p = record { n = n; k = k; v = v; s = s; p = p }

@@ -1,24 +1,22 @@
 -- What lowering makes of expressions, statements and lines: every register is there, and the counts keep within the estimates.
-use Rattle.std.specs.Prelude.{◌≡◌, refl, List, [], ◌∷◌, ℕ, zero, suc, ◌+◌, ◌*◌, ◌≤◌, ◌<◌, length, replicate}
+use Rattle.std.specs.Prelude.{◌≡◌, refl, List, [], ◌∷◌, ℕ, zero, suc, ◌≤◌, ◌<◌, length, replicate}
 use Rattle.std.proofs.Common.{ap, arith}
 use Rattle.std.proofs.Math.Option.{none}
-use Rattle.rules.specs.Constants.{numbersANode, instrsANode, sectionsAStatement}
 use Rattle.rules.specs.Opcode as Op
-use Rattle.rules.specs.Tree.{Tree, Assignop, Expr, Block, Tally, ofExpr, ofBlock, ofLines}
+use Rattle.rules.specs.Tree.{Tree, Assignop, Expr, Block, ofExpr, ofBlock, ofLines}
 use Rattle.rules.specs.Tree.{Plain, AddTo, SubTo, MulTo, DivTo, ModTo, PowTo}
 use Rattle.rules.specs.Tree.{binop, unop, ident, number, string, assign, end}
 use Rattle.rules.specs.Instr.{Instruction, ins₂, str, val, kinds}
-use Rattle.rules.specs.Tables.{Counts}
 use Rattle.rules.specs.Replace.{rules, lookup}
-use Rattle.rules.specs.Script.{Stmts, nil, plain, Script}
+use Rattle.rules.specs.Script.{Stmts, nil, plain}
 use Rattle.rules.specs.Assemble.{orOne, sectionsMade}
 use Rattle.rules.specs.CodegenData.{CodegenData, Lower, newNum, newStr, scoped}
 use Rattle.rules.specs.Operators.{getVariable, copyValreg, makeArithBinop, codegenIncdec}
 use Rattle.rules.specs.Annotate.{codegenFromExpr, store, assignBy, codegenFromAssign, condition, lineNumber, annotateStmts, annotateLines, fresh, annotate}
 use Rattle.rules.specs.Preservation.{All}
-use Rattle.bounds.specs.Room.{Ok, ok₂, Room, code-grows, roomOf, NameBelow, Fine, Cost, cost, plus, Went, seq, within, room, went-here, went-emit, went-num, went-str}
+use Rattle.bounds.specs.Room.{Ok, ok₂, code-grows, roomOf, NameBelow, Fine, Cost, cost, plus, Went, seq, within, room, went-here, went-emit, went-num, went-str}
 use Rattle.bounds.specs.Steps.{MadeVal, MadeNum, value-made, copy-made, copy-new, truthy-made, numberify-made, valueify-made, numbered-made, last}
-use Rattle.bounds.specs.Own.{costOf, free, Whole, whole-grows, codeOf, Made, sizes, codes, MadeAll}
+use Rattle.bounds.specs.Own.{costOf, free, whole-grows, Made, MadeAll}
 use Rattle.bounds.proofs.Operators.{arith-made, binary-made, unary-made, incdec-made}
 
 -- ---- expressions

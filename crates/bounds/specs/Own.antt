@@ -1,9 +1,8 @@
 -- What is said of lowered statements and lines: every register is there, and so many instructions and sections at most. proofs/Own shows it.
-use Rattle.std.specs.Prelude.{◌≡◌, List, [], ◌∷◌, ℕ, suc, ◌+◌, ◌*◌, ◌≤◌, ◌<◌, length}
+use Rattle.std.specs.Prelude.{◌≡◌, [], ◌∷◌, ℕ, suc, ◌+◌, ◌*◌, ◌≤◌, ◌<◌, length}
 use Rattle.std.proofs.Common.{arith}
 use Rattle.rules.specs.Constants.{numbersANode, instrsANode, sectionsAStatement}
 use Rattle.rules.specs.Tree.{Tally}
-use Rattle.rules.specs.Instr.{Instruction}
 use Rattle.rules.specs.Tables.{Counts}
 use Rattle.rules.specs.Script.{Stmts, nil, plain, Script}
 use Rattle.rules.specs.Assemble.{sectionsMade}

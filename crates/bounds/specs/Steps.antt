@@ -1,20 +1,17 @@
 -- Lowering's single steps: what each makes and costs.
-use Rattle.std.specs.Prelude.{◌≡◌, Bool, List, [], ◌∷◌, ◌++◌, ℕ, zero, suc, ◌+◌, ◌≤◌, ◌<◌, ℤ, pos, get_or}
+use Rattle.std.specs.Prelude.{◌≡◌, List, [], ◌∷◌, ◌++◌, ℕ, zero, suc, ◌+◌, ◌<◌, ℤ, pos, get_or}
 use Rattle.std.proofs.Math.Path.{refl}
-use Rattle.std.proofs.Common.{sym, arith, length-append}
-use Rattle.std.proofs.Math.Bool.{true, false}
+use Rattle.std.proofs.Common.{arith, length-append}
+use Rattle.std.proofs.Math.Bool.{false}
 use Rattle.std.proofs.Math.Option.{Option, none, some}
 use Rattle.std.proofs.Math.ListN.{length}
 use Rattle.rules.specs.Opcode as Op
-use Rattle.rules.specs.Tree.{Binop, Unop}
-use Rattle.rules.specs.Tree.{And, Or, Add, Sub, Mul, Div, Mod, Pow, Eq, Ne, Le, Lt, Ge, Gt}
-use Rattle.rules.specs.Tree.{Neg, Not, Abs, Sqrt, Fact, Sin, Cos, Tan, Asin, Acos, Atan}
-use Rattle.rules.specs.Instr.{canRuntimeErr, ins₁, ins₂, ins₃, Kind, unused, num, val, place, kinds}
+use Rattle.rules.specs.Instr.{ins₂, Kind, unused, num, val, place, kinds}
 use Rattle.rules.specs.Replace.{rules, lookup}
 use Rattle.rules.specs.CodegenData.{CodegenData, emit, newNum, newVal, bindName}
-use Rattle.rules.specs.Operators.{errorJump, getVariable, copyValreg, makeTruthy, numberify, makeVal, makeLogicBinop, guard, makeArithBinop, makeCmpBinop, makeNe, applyInPlace, applyBinop, makeNot, applyInNumber, applyUnop, incdecOp, codegenIncdec}
+use Rattle.rules.specs.Operators.{errorJump, getVariable, copyValreg, makeTruthy, numberify, makeVal}
 use Rattle.rules.specs.Preservation.{All, FieldBelow}
-use Rattle.bounds.specs.Room.{adds, Ok, ok₁, ok₂, ok₃, field-grows, roomOf, NameBelow, Fine, Cost, cost, Went, seq, Most, within, room, went-here, went-emit, went-num, went-val, went-bind}
+use Rattle.bounds.specs.Room.{adds, Ok, ok₁, ok₂, field-grows, roomOf, NameBelow, Fine, Cost, cost, Went, seq, within, room, went-here, went-emit, went-num, went-val, went-bind}
 
 -- A step that gives a value register, and one that gives a number register.
 pub record MadeVal (c : Cost) (g : CodegenData) (x : ℕ × CodegenData) : Type 0 where
