@@ -1,28 +1,42 @@
-// A recorded machine (oracle/README.md, "A machine on one line").
+// A recorded machine (oracle/README.md, "A machine on one line"): its counts, its tables read into lent ones, and both compared.
 //
-// Each function is shown safe and ending, on any text.
-use crate::{bytes, decimal, hexadecimal, part};
-use std::alloc::{AllocError, Global};
-use tables::answer::Answer;
+// Each function is shown safe and ending, on any bytes.
+ghost use Rattle.std.specs.Prelude.{◌≡◌, ◌≤◌, length, take};
+
+use crate::rows::{
+    read_signed, read16, read32, read64, spells_bytes, spells_signed, spells16, spells32, spells64,
+};
+use crate::{bytes, decimal, part, until};
 use tables::counts::Counts;
 
-// The eight counts, and the words of the tables, of which there may be more than are counted.
-#[derive(Drop)]
-pub struct Machine {
-    pub counts: Counts,
-    pub sections: Vec<u64>,
-    pub instructions: Vec<u64>,
-    pub numbers: Vec<i64>,
-    pub strings: Vec<u32>,
-    pub pool: Vec<u8>,
-    pub names: Vec<u16>,
+// The parts of the line: the counts, then the tables.
+const COUNTS: usize = 0;
+
+pub const SECTIONS: usize = 1;
+
+pub const INSTRUCTIONS: usize = 2;
+
+const NUMBERS: usize = 3;
+
+const STRINGS: usize = 4;
+
+const POOL: usize = 5;
+
+const NAMES: usize = 6;
+
+fn table(text: &[u8], k: usize) -> &[u8] {
+    let from = part(text, k, b'|');
+    let end = until(text, from, b'|');
+    &text[from..end]
 }
 
-fn count(row: &str, k: usize) -> usize {
-    decimal(part(row, k, ' ')) as usize
+// A number of a row.
+fn count(row: &[u8], k: usize) -> usize {
+    let at = part(row, k, b' ');
+    decimal(&row[at..]) as usize
 }
 
-fn counts(row: &str) -> Counts {
+fn row_counts(row: &[u8]) -> Counts {
     Counts {
         lines: count(row, 0),
         sections: count(row, 1),
@@ -35,55 +49,12 @@ fn counts(row: &str) -> Counts {
     }
 }
 
-// The words of a table's row, parted by blanks.
-fn words(alloc: Global, row: &str) -> Result<Vec<&str>, AllocError> {
-    row.split(' ')
-        .filter(|word| !word.is_empty())
-        .collect(alloc)
+// The eight counts of a machine.
+pub fn counts(text: &[u8]) -> Counts {
+    row_counts(table(text, COUNTS))
 }
 
-fn words64(alloc: Global, row: &str) -> Result<Vec<u64>, AllocError> {
-    words(alloc, row)?
-        .iter()
-        .map(|word| hexadecimal(word))
-        .collect(alloc)
-}
-
-pub fn words32(alloc: Global, row: &str) -> Result<Vec<u32>, AllocError> {
-    words(alloc, row)?
-        .iter()
-        .map(|word| u32::from_str_radix(word, 16).unwrap_or(0))
-        .collect(alloc)
-}
-
-fn signed(alloc: Global, row: &str) -> Result<Vec<i64>, AllocError> {
-    words(alloc, row)?
-        .iter()
-        .map(|word| word.parse().unwrap_or(0))
-        .collect(alloc)
-}
-
-fn words16(alloc: Global, row: &str) -> Result<Vec<u16>, AllocError> {
-    words(alloc, row)?
-        .iter()
-        .map(|word| word.parse().unwrap_or(0))
-        .collect(alloc)
-}
-
-// The machine of a line: the counts, then the tables.
-pub fn read(alloc: Global, line: &str) -> Result<Machine, AllocError> {
-    Ok(Machine {
-        counts: counts(part(line, 0, '|')),
-        sections: words64(alloc, part(line, 1, '|'))?,
-        instructions: words64(alloc, part(line, 2, '|'))?,
-        numbers: signed(alloc, part(line, 3, '|'))?,
-        strings: words32(alloc, part(line, 4, '|'))?,
-        pool: bytes(alloc, part(line, 5, '|'))?,
-        names: words16(alloc, part(line, 6, '|'))?,
-    })
-}
-
-fn same(a: Counts, b: Counts) -> bool {
+pub fn same(a: Counts, b: Counts) -> bool {
     (a.lines == b.lines)
         & (a.sections == b.sections)
         & (a.instructions == b.instructions)
@@ -94,26 +65,58 @@ fn same(a: Counts, b: Counts) -> bool {
         & (a.names == b.names)
 }
 
-fn same_tables(a: &Machine, b: &Machine) -> bool {
-    (a.sections == b.sections)
-        & (a.instructions == b.instructions)
-        & (a.numbers == b.numbers)
-        & (a.strings == b.strings)
-        & (a.pool == b.pool)
-        & (a.names == b.names)
+// Sections or instructions into a lent table; how many words there are.
+pub fn words_of(text: &[u8], k: usize, out: &mut [u64]) -> usize
+    ensures { (result ≤ length out.new) × (result ≡ length (take result out.new)) }
+{
+    read64(table(text, k), out)
 }
 
-// Is it `R` and this number?
-pub fn refused(row: &str, n: u64) -> bool {
-    match row.strip_prefix("R ") {
-        Some(number) => decimal(number) == n,
-        None => false,
-    }
+pub fn numbers_of(text: &[u8], out: &mut [i64]) -> usize
+    ensures { (result ≤ length out.new) × (result ≡ length (take result out.new)) }
+{
+    read_signed(table(text, NUMBERS), out)
 }
 
-// Are these the recorded counts, and the words that they count?
-fn is_counted(
-    m: &Machine,
+pub fn strings_of(text: &[u8], out: &mut [u32]) -> usize
+    ensures { (result ≤ length out.new) × (result ≡ length (take result out.new)) }
+{
+    read32(table(text, STRINGS), out)
+}
+
+pub fn pool_of(text: &[u8], out: &mut [u8]) -> usize
+    ensures { (result ≤ length out.new) × (result ≡ length (take result out.new)) }
+{
+    bytes(table(text, POOL), out)
+}
+
+pub fn names_of(text: &[u8], out: &mut [u16]) -> usize
+    ensures { (result ≤ length out.new) × (result ≡ length (take result out.new)) }
+{
+    read16(table(text, NAMES), out)
+}
+
+// Are these just the words of the recorded tables?
+pub fn has_tables(
+    text: &[u8],
+    sections: &[u64],
+    instructions: &[u64],
+    numbers: &[i64],
+    strings: &[u32],
+    pool: &[u8],
+    names: &[u16],
+) -> bool {
+    spells64(table(text, SECTIONS), sections)
+        & spells64(table(text, INSTRUCTIONS), instructions)
+        & spells_signed(table(text, NUMBERS), numbers)
+        & spells32(table(text, STRINGS), strings)
+        & spells_bytes(table(text, POOL), pool)
+        & spells16(table(text, NAMES), names)
+}
+
+// Are these the words of the recorded tables, as many as are counted?
+fn has_counted(
+    text: &[u8],
     c: Counts,
     sections: &[u64],
     instructions: &[u64],
@@ -122,54 +125,73 @@ fn is_counted(
     pool: &[u8],
     names: &[u16],
 ) -> bool {
-    same(m.counts, c)
-        & starts(sections, &m.sections, c.sections)
-        & starts(instructions, &m.instructions, c.instructions)
-        & starts(numbers, &m.numbers, c.numbers)
-        & starts(strings, &m.strings, c.strings)
-        & starts(pool, &m.pool, c.characters)
-        & starts(names, &m.names, c.names)
+    if c.sections > sections.len() {
+        return false;
+    }
+    if c.instructions > instructions.len() {
+        return false;
+    }
+    if c.numbers > numbers.len() {
+        return false;
+    }
+    if c.strings > strings.len() {
+        return false;
+    }
+    if c.characters > pool.len() {
+        return false;
+    }
+    if c.names > names.len() {
+        return false;
+    }
+    let from: usize = 0;
+    let s = c.sections;
+    let i = c.instructions;
+    let n = c.numbers;
+    let t = c.strings;
+    let p = c.characters;
+    let m = c.names;
+    has_tables(
+        text,
+        &sections[from..s],
+        &instructions[from..i],
+        &numbers[from..n],
+        &strings[from..t],
+        &pool[from..p],
+        &names[from..m],
+    )
 }
 
-// Are the words that are counted these?
-fn starts<T: PartialEq>(lent: &[T], words: &[T], count: usize) -> bool {
-    (words.len() == count) & lent.starts_with(words)
-}
-
-// Does an answer agree with its row, a refusal's number, or a machine with just the counted words?
-pub fn answered(
-    alloc: Global,
-    row: &str,
-    answer: Answer,
+// Are these the recorded counts, and the words that they count?
+pub fn is_machine(
+    text: &[u8],
+    c: Counts,
     sections: &[u64],
     instructions: &[u64],
     numbers: &[i64],
     strings: &[u32],
     pool: &[u8],
     names: &[u16],
-) -> Result<bool, AllocError> {
-    match answer {
-        Answer::Refused(n) => Ok(refused(row, n)),
-        Answer::Done(c) => {
-            let m = read(alloc, row)?;
-            Ok(is_counted(&m, c, sections, instructions, numbers, strings, pool, names))
-        }
-    }
+) -> bool {
+    same(counts(text), c)
+        & has_counted(
+            text,
+            c,
+            sections,
+            instructions,
+            numbers,
+            strings,
+            pool,
+            names,
+        )
 }
 
-// The same with all lent words, those of m; a refusal leaves them as they were before it.
-pub fn left(
-    alloc: Global,
-    before: &Machine,
-    row: &str,
-    answer: Answer,
-    m: &Machine,
-) -> Result<bool, AllocError> {
-    match answer {
-        Answer::Refused(n) => Ok(refused(row, n) & same_tables(before, m)),
-        Answer::Done(c) => {
-            let after = read(alloc, row)?;
-            Ok(same(after.counts, c) & same_tables(&after, m))
-        }
+// Is it `R` and this number?
+pub fn refused(row: &[u8], n: u64) -> bool {
+    if row.len() < 3 {
+        return false;
     }
+    if row[0] != b'R' {
+        return false;
+    }
+    decimal(&row[2..]) == n
 }

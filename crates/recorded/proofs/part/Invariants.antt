@@ -1,0 +1,5 @@
+use Rattle.std.proofs.Common.{◌≤◌, length}
+use Rattle.recorded.proofs.part.Given as goal
+
+abbrev pub invariant-loop : goal.invariant-loop
+invariant-loop l = l.at ≤ length l.text
