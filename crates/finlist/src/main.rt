@@ -5,18 +5,22 @@
 #![tactic(auto)]
 
 use std::io;
-use std::io::{Read, Write};
+use text::input::read_full;
 
-const ROOM: u64 = printed::FINLIST_BYTES as u64 + 1;
+const ROOM: usize = printed::FINLIST_BYTES + 1;
 
 fn space() -> [u8; printed::MOST_PRINTED] {
     [0u8; printed::MOST_PRINTED]
 }
 
-fn main(rt: HostRuntime) -> io::Result<()> {
-    let mut file = Vec::new(rt.alloc());
-    rt.reader().take(ROOM).read_to_end(&mut file)?;
+fn print<P: Print>(to: &P, input: &[u8]) -> io::Result<()> {
     let mut out = space();
-    let n = printed::finlist(&file, &mut out);
-    io::writer(&rt).write_all(&out[..n])
+    let n = printed::finlist(input, &mut out);
+    to.write_all(&out[..n])
+}
+
+fn main(rt: HostRuntime) -> io::Result<()> {
+    let mut buf = [0u8; ROOM];
+    let n = read_full(&mut rt.reader(), &mut buf)?;
+    print(&rt, &buf[..n])
 }

@@ -7,10 +7,9 @@
 pub mod machine;
 pub mod rows;
 
-ghost use Rattle.std.specs.Prelude.{◌≡◌, ◌≤◌, ◌<◌, length, take, IfOk};
+ghost use Rattle.std.specs.Prelude.{◌≡◌, ◌≤◌, ◌<◌, length, take};
 
 use std::io;
-use std::io::Read;
 
 // Where the stretch that begins at `from` ends: at the next `stop`, or where the text does.
 pub fn until(text: &[u8], from: usize, stop: u8) -> usize
@@ -93,19 +92,4 @@ pub fn one_if(b: bool) -> u64
 pub fn print<P: Print>(to: &P, agree: u64, cases: u64, what: &[u8]) -> io::Result<()> {
     print!(to; "{agree} of {cases}")?;
     to.write_all(what)
-}
-
-// Reads until the space is full or the input ends; how many bytes were read.
-pub fn read_full<R: Read>(from: &mut R, space: &mut [u8]) -> io::Result<usize>
-    ensures { IfOk result (λ n. (n ≤ length space.new) × (n ≡ length (take n space.new))) }
-{
-    let mut n: usize = 0;
-    while n < space.len() {
-        let more = from.read(&mut space[n..])?;
-        if more == 0 {
-            return Ok(n);
-        }
-        n += more;
-    }
-    Ok(n)
 }

@@ -10,6 +10,7 @@ use params::options::CodegenOptions;
 use recorded::machine;
 use std::io;
 use tables::answer::Answer;
+use text::input::read_full;
 use tree::{SizeAnswer, Sizes};
 
 // The most bytes of recorded lines that are read.
@@ -280,6 +281,6 @@ fn input() -> [u8; MOST_RECORDED] {
 
 fn main(rt: HostRuntime) -> io::Result<()> {
     let mut space = input();
-    let n = recorded::read_full(&mut rt.reader(), &mut space)?;
+    let n = read_full(&mut rt.reader(), &mut space)?;
     replay(&rt, &space[..n])
 }

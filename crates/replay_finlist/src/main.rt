@@ -4,6 +4,7 @@
 #![tactic(auto)]
 
 use std::io;
+use text::input::read_full;
 
 // One byte more than the longest file that finlist reads.
 const ROOM: usize = printed::FINLIST_BYTES + 1;
@@ -80,6 +81,6 @@ fn input() -> [u8; MOST_RECORDED] {
 
 fn main(rt: HostRuntime) -> io::Result<()> {
     let mut space = input();
-    let n = recorded::read_full(&mut rt.reader(), &mut space)?;
+    let n = read_full(&mut rt.reader(), &mut space)?;
     replay(&rt, &space[..n])
 }

@@ -9,6 +9,7 @@ use std::io;
 use tables::answer::Answer;
 use tables::counts::Counts;
 use tables::text::text;
+use text::input::read_full;
 use words::instr::StrReg;
 
 // The most bytes of recorded lines that are read.
@@ -235,6 +236,6 @@ fn input() -> [u8; MOST_RECORDED] {
 
 fn main(rt: HostRuntime) -> io::Result<()> {
     let mut space = input();
-    let n = recorded::read_full(&mut rt.reader(), &mut space)?;
+    let n = read_full(&mut rt.reader(), &mut space)?;
     replay(&rt, &space[..n])
 }

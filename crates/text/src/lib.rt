@@ -1,7 +1,9 @@
-// Text in a lent slice: bytes, decimal numbers and hexadecimal texts, each written behind what stands there already.
+// Text in a lent slice: bytes, decimal numbers and hexadecimal texts, each written behind what stands there already; and what is read into one (input).
 //
-// Each function is shown to write what the definition of its part in `rules` says, and no other byte. It asks for just that much room.
+// Each function that writes is shown to write what the definition of its part in `rules` says, and no other byte. It asks for just that much room.
 #![tactic(auto)]
+
+pub mod input;
 
 ghost use Rattle.std.specs.Prelude.{◌≡◌, [], ◌∷◌, ◌≤◌, nat_abs, length, drop};
 ghost use Rattle.rules.specs.Listing as Listing;
