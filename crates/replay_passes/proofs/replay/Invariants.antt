@@ -1,5 +1,5 @@
 -- There are no more cases than bytes passed, and no more agree.
-use Rattle.std.proofs.Common.{ℕ, ◌+◌, ◌-◌, ◌≤◌, length}
+use Rattle.std.proofs.Common.{◌+◌, ◌-◌, ◌≤◌, length}
 use Rattle.replay_passes.proofs.replay.Given as goal
 
 abbrev pub invariant-loop-at : goal.invariant-loop-at

@@ -1,4 +1,5 @@
-use Rattle.std.proofs.Common.{ℕ, ◌-◌, ◌≤◌, length}
+-- No more bytes are read than the space has.
+use Rattle.std.proofs.Common.{◌-◌, ◌≤◌, length}
 use Rattle.text.proofs.input.read_full.Given as goal
 
 abbrev pub invariant-loop-n : goal.invariant-loop-n
