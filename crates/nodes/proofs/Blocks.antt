@@ -1,4 +1,4 @@
--- What a node's word says of the statement that is held there; and a table holds at most one list from a node. Assumes nothing.
+-- What a node's word says of the statement that is held there. Assumes nothing.
 use mathlib.Core.Path.{◌≡◌, refl, sym, ap}
 use mathlib.Core.Bool.{Bool}
 use mathlib.Core.List.{List}
