@@ -1,3 +1,4 @@
+-- The place stays inside the text.
 use Rattle.std.proofs.Common.{◌≤◌, length}
 use Rattle.recorded.proofs.rows.spells_signed.Given as goal
 
