@@ -1,5 +1,5 @@
 -- What the structs and enums of the code say in the words of `rules`.
-use Rattle.std.specs.Prelude.{◌≡◌, Bool, List, [], ◌∷◌, ℕ, length, take}
+use Rattle.std.specs.Prelude.{◌≡◌, Bool, List, [], ◌∷◌, ℕ, length, take, Option as Answer, Some, None}
 use Rattle.std.proofs.Math.Option.{Option, none, some}
 use Rattle.rules.specs.Instr.{Instruction as Ins, ins₁, ins₂, Kind, unused, num, str, val, place, Row, kinds}
 use Rattle.rules.specs.Opcode.{CopyNum, CopyStr}
@@ -10,15 +10,10 @@ use Rattle.words.specs.declared.instr.Kind.TheVariants.{Unused, Num, Str, Val, P
 use Rattle.words.specs.declared.instr.Flow.{Flow}
 use Rattle.words.specs.declared.instr.Flow.TheVariants.{Nothing, Tested, Itself, FromTo, Two, Compared}
 use Rattle.words.specs.declared.instr.Fields.{Fields}
-use Rattle.words.specs.declared.instr.Fields.TheVariants.{Are, Refused}
+use Rattle.words.specs.declared.instr.Section.{Section}
 use Rattle.words.specs.declared.instr.AnyReg.{AnyReg}
 use Rattle.words.specs.declared.instr.AnyReg.TheVariants.{Num as NumR, Str as StrR, Val as ValR}
 use Rattle.words.specs.declared.instr.Reads.{Reads}
-use Rattle.words.specs.declared.instr.Modified.{Modified}
-use Rattle.words.specs.declared.instr.Modified.TheVariants.{Reg, Nothing as Unmodified}
-use Rattle.words.specs.declared.instr.Target.{Target}
-use Rattle.words.specs.declared.instr.Target.TheVariants.{At, Nowhere}
-use Rattle.words.specs.declared.instr.Checked.{Checked}
 use Rattle.words.specs.declared.instr.DupRule.{DupRule}
 use Rattle.words.specs.declared.instr.DupRule.TheVariants.{Stays, Goes, Turns, Number, Result, Blank}
 use Rattle.words.specs.declared.instr.Replaced.{Replaced}
@@ -55,13 +50,13 @@ abbrev pub Shape : ℕ → Kind → Kind → Kind → Type 0
 Shape o a b c = kinds o ≡ some (a, b, c)
 
 -- an opcode's row of the table
-abbrev pub fieldsTold : Fields → Option Row
-fieldsTold (Are a b c f) = some (record { kinds = (kindTold a, kindTold b, kindTold c); reads = flowReads f; modifies = flowModifies f })
-fieldsTold Refused = none
+abbrev pub fieldsTold : Answer Fields → Option Row
+fieldsTold (Some f) = some (record { kinds = (kindTold f.0, kindTold f.1, kindTold f.2); reads = flowReads f.3; modifies = flowModifies f.3 })
+fieldsTold None = none
 
-abbrev pub kindsTold : Fields → Option (Kind × Kind × Kind)
-kindsTold (Are a b c f) = some (kindTold a, kindTold b, kindTold c)
-kindsTold Refused = none
+abbrev pub kindsTold : Answer Fields → Option (Kind × Kind × Kind)
+kindsTold (Some f) = some (kindTold f.0, kindTold f.1, kindTold f.2)
+kindsTold None = none
 
 -- ---- registers
 
@@ -94,18 +89,15 @@ just a = a ∷ []
 abbrev pub both : Kind × ℕ → Kind × ℕ → List (Kind × ℕ)
 both a b = a ∷ b ∷ []
 
-abbrev pub modifiedTold : Modified → Option (Kind × ℕ)
-modifiedTold (Reg r) = some (regTold r)
-modifiedTold Unmodified = none
+abbrev pub modifiedTold : Answer AnyReg → Option (Kind × ℕ)
+modifiedTold (Some r) = some (regTold r)
+modifiedTold None = none
 
 -- ---- jumps
 
-abbrev pub targetTold : Target → Option ℕ
-targetTold (At s) = some s.0
-targetTold Nowhere = none
-
-abbrev pub checkedTold : Checked → Bool × ℕ
-checkedTold r = (r.jumped, r.instr.0)
+abbrev pub targetTold : Answer Section → Option ℕ
+targetTold (Some s) = some s.0
+targetTold None = none
 
 abbrev pub packed : Bool × Ins → Bool × ℕ
 packed r = (r.0, insWord r.1)

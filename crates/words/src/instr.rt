@@ -2,7 +2,7 @@
 //
 // Each function is shown equal to the definition of its name in `rules`, through the maps of specs/Told. The functions on a word hold for
 // every u64. Only the packing of an opcode asks anything: that its fields are of the kinds that are packed.
-ghost use Rattle.std.specs.Prelude.{◌≡◌, ◌<◌};
+ghost use Rattle.std.specs.Prelude.{◌≡◌, ◌<◌, ℕ};
 ghost use Rattle.std.proofs.Math.ListN.{get_elem?};
 ghost use Rattle.rules.specs.Opcode as Op;
 ghost use Rattle.rules.specs.Instr as Instr;
@@ -11,12 +11,13 @@ ghost use Rattle.rules.specs.Replace.{rules, lookup, ruleOf};
 ghost use Rattle.words.specs.Told as Told;
 
 use crate::number::Number;
-use Fields::Are;
 use Flow::{Compared, FromTo, Itself, Nothing, Tested, Two};
 use Kind::{Num, Place, Str, Unused, Val};
 
+// Registers and sections are numbers of one form and four types, so that none is taken for another; what they share is `Operand`.
+
 // A number register.
-#[derive(Clone, Copy)]
+#[derive(Clone, Copy, PartialEq, Eq)]
 pub struct NumReg(pub u16);
 
 // A string register.
@@ -36,11 +37,62 @@ pub enum AnyReg {
 }
 
 // A section's number.
-#[derive(Clone, Copy)]
+#[derive(Clone, Copy, PartialEq, Eq)]
 pub struct Section(pub u16);
 
+// What a field of an instruction may hold: a register of one kind, or the section of a jump.
+pub trait Operand: Copy {
+    // The kind of its fields, and its number.
+    ghost kind: { Instr.Kind };
+
+    ghost number_of: { Self → ℕ };
+
+    fn number(self) -> u16
+        ensures { result ≡ number_of self };
+}
+
+impl Operand for NumReg {
+    ghost kind = { Instr.num };
+
+    ghost number_of = { λ r. r.0 };
+
+    fn number(self) -> u16 {
+        self.0
+    }
+}
+
+impl Operand for StrReg {
+    ghost kind = { Instr.str };
+
+    ghost number_of = { λ r. r.0 };
+
+    fn number(self) -> u16 {
+        self.0
+    }
+}
+
+impl Operand for ValReg {
+    ghost kind = { Instr.val };
+
+    ghost number_of = { λ r. r.0 };
+
+    fn number(self) -> u16 {
+        self.0
+    }
+}
+
+impl Operand for Section {
+    ghost kind = { Instr.place };
+
+    ghost number_of = { λ s. s.0 };
+
+    fn number(self) -> u16 {
+        self.0
+    }
+}
+
 // What a field holds: nothing, a register, or the section of a jump.
-#[derive(Clone, Copy)]
+#[derive(Clone, Copy, PartialEq, Eq)]
 pub enum Kind {
     Unused,
     Num,
@@ -61,40 +113,16 @@ pub enum Flow {
     Compared,
 }
 
-// The fields of an opcode, or no opcode has the number.
+// The kinds of an opcode's three fields, and what it does with them.
 #[derive(Clone, Copy)]
-pub enum Fields {
-    Are(Kind, Kind, Kind, Flow),
-    Refused,
-}
+pub struct Fields(pub Kind, pub Kind, pub Kind, pub Flow);
 
-// The registers that are read, in order: the first `count` of the two.
+// The registers that are read, in order: the first `count` of the two. They are two at most, where yogi has an ArrayVec: a list wants a heap.
 #[derive(Clone, Copy)]
 pub struct Reads {
     pub count: u64,
     pub first: AnyReg,
     pub second: AnyReg,
-}
-
-// The register that is modified.
-#[derive(Clone, Copy)]
-pub enum Modified {
-    Reg(AnyReg),
-    Nothing,
-}
-
-// The section that is jumped to.
-#[derive(Clone, Copy)]
-pub enum Target {
-    At(Section),
-    Nowhere,
-}
-
-// An instruction after the removal of a section, and whether it jumped there.
-#[derive(Clone, Copy)]
-pub struct Checked {
-    pub jumped: bool,
-    pub instr: Instruction,
 }
 
 // What becomes of an opcode whose first two fields are one register: it stays, it goes, another opcode takes the register, a copy of
@@ -120,7 +148,7 @@ pub enum Replaced {
 }
 
 // A number above a removed one falls by one.
-fn fall(removed: u16, n: u16) -> u16
+pub fn fall(removed: u16, n: u16) -> u16
     ensures { result ≡ Instr.fall removed n }
 {
     if removed < n { n - 1 } else { n }
@@ -131,13 +159,7 @@ impl Kind {
     pub fn number(self) -> u64
         ensures { result ≡ Instr.kindNumber (Told.kindTold self) }
     {
-        match self {
-            Kind::Unused => 0,
-            Kind::Num => 1,
-            Kind::Str => 2,
-            Kind::Val => 3,
-            Kind::Place => 4,
-        }
+        self as u64
     }
 }
 
@@ -178,11 +200,11 @@ impl AnyReg {
     fn fall_of(self, kind: Kind, n: u16) -> u16
         ensures { result ≡ Instr.fallOf (Told.regTold self).0 (Told.regTold self).1 (Told.kindTold kind) n }
     {
-        let own = self.kind();
-        if own.number() == kind.number() {
-            return fall(self.number(), n);
+        if self.kind() == kind {
+            fall(self.number(), n)
+        } else {
+            n
         }
-        n
     }
 }
 
@@ -223,7 +245,7 @@ impl Reads {
 #[derive(Clone, Copy)]
 pub struct Instruction(pub u64);
 
-// The opcodes, in yogi's order.
+// The opcodes, in yogi's order. They are numbers and no enum: a word that is handed in has any number, and one decision with ranges takes it (`fields`).
 impl Instruction {
     pub const JUMP_SECTION_IF: u64 = 0;
 
@@ -332,123 +354,64 @@ impl Instruction {
     pub const OR: u64 = 52;
 }
 
-// Packing, a function for each shape.
+// Packing, a function for each number of operands.
 impl Instruction {
     #[tactic(auto, unfolding(rules::specs::Word::insWord))]
     fn word(op: u64, fst: u16, snd: u16, thd: u16) -> Instruction
         requires { op < 64 }
         ensures { result.0 ≡ insWord (Instr.ins₃ op fst snd thd) }
     {
-        Instruction((op << 58) + ((fst as u64) << 42) + ((snd as u64) << 26) + ((thd as u64) << 10))
+        let low = (u64::from(snd) << 26) + (u64::from(thd) << 10);
+        Instruction((op << 58) + (u64::from(fst) << 42) + low)
     }
 
+    #[tactic(auto, unfolding(rules::specs::Instr::kinds, rules::specs::Instr::table))]
     pub fn jump_section_if(target: Section, test: NumReg) -> Instruction
         ensures { result.0 ≡ insWord (Instr.ins₂ Op.JumpSectionIf target.0 test.0) }
     {
-        Self::word(Self::JUMP_SECTION_IF, target.0, test.0, 0)
+        Self::of_two(Self::JUMP_SECTION_IF, target, test)
     }
 
+    #[tactic(auto, unfolding(rules::specs::Instr::kinds, rules::specs::Instr::table))]
     pub fn jump_if_error(target: Section) -> Instruction
         ensures { result.0 ≡ insWord (Instr.ins₁ Op.JumpIfError target.0) }
     {
-        Self::word(Self::JUMP_IF_ERROR, target.0, 0, 0)
+        Self::of_one(Self::JUMP_IF_ERROR, target)
     }
 
-    pub fn valueify_num(from: NumReg, to: ValReg) -> Instruction
-        ensures { result.0 ≡ insWord (Instr.ins₂ Op.ValueifyNum from.0 to.0) }
-    {
-        Self::word(Self::VALUEIFY_NUM, from.0, to.0, 0)
-    }
-
-    pub fn valueify_str(from: StrReg, to: ValReg) -> Instruction
-        ensures { result.0 ≡ insWord (Instr.ins₂ Op.ValueifyStr from.0 to.0) }
-    {
-        Self::word(Self::VALUEIFY_STR, from.0, to.0, 0)
-    }
-
-    pub fn stringify_num(from: NumReg, to: StrReg) -> Instruction
-        ensures { result.0 ≡ insWord (Instr.ins₂ Op.StringifyNum from.0 to.0) }
-    {
-        Self::word(Self::STRINGIFY_NUM, from.0, to.0, 0)
-    }
-
-    pub fn stringify_val(from: ValReg, to: StrReg) -> Instruction
-        ensures { result.0 ≡ insWord (Instr.ins₂ Op.StringifyVal from.0 to.0) }
-    {
-        Self::word(Self::STRINGIFY_VAL, from.0, to.0, 0)
-    }
-
-    // An opcode on one register.
+    // An opcode on one operand, on two and on three.
 
     #[tactic(auto, using(crate::proofs::Laws::opcodes))]
-    pub fn of_num(op: u64, reg: NumReg) -> Instruction
-        requires { Told.Shape op Instr.num Instr.unused Instr.unused }
-        ensures { result.0 ≡ insWord (Instr.ins₁ op reg.0) }
+    pub fn of_one<A: Operand>(op: u64, fst: A) -> Instruction
+        requires { Told.Shape op A.kind Instr.unused Instr.unused }
+        ensures { result.0 ≡ insWord (Instr.ins₁ op (A.number_of fst)) }
     {
-        Self::word(op, reg.0, 0, 0)
+        Self::word(op, fst.number(), 0, 0)
     }
 
     #[tactic(auto, using(crate::proofs::Laws::opcodes))]
-    pub fn of_str(op: u64, reg: StrReg) -> Instruction
-        requires { Told.Shape op Instr.str Instr.unused Instr.unused }
-        ensures { result.0 ≡ insWord (Instr.ins₁ op reg.0) }
+    pub fn of_two<A: Operand, B: Operand>(op: u64, fst: A, snd: B) -> Instruction
+        requires { Told.Shape op A.kind B.kind Instr.unused }
+        ensures { result.0 ≡ insWord (Instr.ins₂ op (A.number_of fst) (B.number_of snd)) }
     {
-        Self::word(op, reg.0, 0, 0)
+        Self::word(op, fst.number(), snd.number(), 0)
     }
 
     #[tactic(auto, using(crate::proofs::Laws::opcodes))]
-    pub fn of_val(op: u64, reg: ValReg) -> Instruction
-        requires { Told.Shape op Instr.val Instr.unused Instr.unused }
-        ensures { result.0 ≡ insWord (Instr.ins₁ op reg.0) }
+    pub fn of_three<A: Operand, B: Operand, C: Operand>(
+        op: u64,
+        fst: A,
+        snd: B,
+        thd: C,
+    ) -> Instruction
+        requires { Told.Shape op A.kind B.kind C.kind }
+        ensures { result.0 ≡ insWord (Instr.ins₃ op (A.number_of fst) (B.number_of snd) (C.number_of thd)) }
     {
-        Self::word(op, reg.0, 0, 0)
-    }
-
-    // An opcode on two registers: of one kind, or from a value to a number.
-
-    #[tactic(auto, using(crate::proofs::Laws::opcodes))]
-    pub fn num_num(op: u64, fst: NumReg, snd: NumReg) -> Instruction
-        requires { Told.Shape op Instr.num Instr.num Instr.unused }
-        ensures { result.0 ≡ insWord (Instr.ins₂ op fst.0 snd.0) }
-    {
-        Self::word(op, fst.0, snd.0, 0)
-    }
-
-    #[tactic(auto, using(crate::proofs::Laws::opcodes))]
-    pub fn str_str(op: u64, fst: StrReg, snd: StrReg) -> Instruction
-        requires { Told.Shape op Instr.str Instr.str Instr.unused }
-        ensures { result.0 ≡ insWord (Instr.ins₂ op fst.0 snd.0) }
-    {
-        Self::word(op, fst.0, snd.0, 0)
-    }
-
-    #[tactic(auto, using(crate::proofs::Laws::opcodes))]
-    pub fn val_val(op: u64, fst: ValReg, snd: ValReg) -> Instruction
-        requires { Told.Shape op Instr.val Instr.val Instr.unused }
-        ensures { result.0 ≡ insWord (Instr.ins₂ op fst.0 snd.0) }
-    {
-        Self::word(op, fst.0, snd.0, 0)
-    }
-
-    #[tactic(auto, using(crate::proofs::Laws::opcodes))]
-    pub fn val_num(op: u64, from: ValReg, to: NumReg) -> Instruction
-        requires { Told.Shape op Instr.val Instr.num Instr.unused }
-        ensures { result.0 ≡ insWord (Instr.ins₂ op from.0 to.0) }
-    {
-        Self::word(op, from.0, to.0, 0)
-    }
-
-    // A comparison of two values, into a number.
-    #[tactic(auto, using(crate::proofs::Laws::opcodes))]
-    pub fn val_val_num(op: u64, left: ValReg, right: ValReg, out: NumReg) -> Instruction
-        requires { Told.Shape op Instr.val Instr.val Instr.num }
-        ensures { result.0 ≡ insWord (Instr.ins₃ op left.0 right.0 out.0) }
-    {
-        Self::word(op, left.0, right.0, out.0)
+        Self::word(op, fst.number(), snd.number(), thd.number())
     }
 }
 
-// Unpacking.
+// Unpacking. Each field's place and width are written where it is read: a function over both would ask that the field lies in the word.
 impl Instruction {
     #[tactic(auto, unfolding(rules::specs::Word::wordIns))]
     pub fn op(self) -> u64
@@ -498,39 +461,41 @@ impl Instruction {
 impl Instruction {
     // What each opcode's fields hold, and what it does with them.
     #[tactic(auto, unfolding(rules::specs::Instr::table, rules::specs::Instr::kinds))]
-    pub fn fields(op: u64) -> Fields
+    pub fn fields(op: u64) -> Option<Fields>
         ensures kinds { Told.kindsTold result ≡ Instr.kinds op }
         ensures row { Told.fieldsTold result ≡ get_elem? Instr.table op }
     {
         match op {
-            Self::JUMP_SECTION_IF => Are(Place, Num, Unused, Tested),
-            Self::JUMP_IF_ERROR => Are(Place, Unused, Unused, Nothing),
-            Self::COPY_NUM => Are(Num, Num, Unused, FromTo),
-            Self::COPY_STR => Are(Str, Str, Unused, FromTo),
-            Self::COPY_VAL => Are(Val, Val, Unused, FromTo),
-            Self::VALUEIFY_NUM => Are(Num, Val, Unused, FromTo),
-            Self::VALUEIFY_STR => Are(Str, Val, Unused, FromTo),
-            Self::STRINGIFY_NUM => Are(Num, Str, Unused, FromTo),
-            Self::STRINGIFY_VAL => Are(Val, Str, Unused, FromTo),
-            Self::NUMBERIFY_VAL | Self::IS_TRUTHY_VAL | Self::NOT_VAL => Are(
+            Self::JUMP_SECTION_IF => Some(Fields(Place, Num, Unused, Tested)),
+            Self::JUMP_IF_ERROR => Some(Fields(Place, Unused, Unused, Nothing)),
+            Self::COPY_NUM => Some(Fields(Num, Num, Unused, FromTo)),
+            Self::COPY_STR => Some(Fields(Str, Str, Unused, FromTo)),
+            Self::COPY_VAL => Some(Fields(Val, Val, Unused, FromTo)),
+            Self::VALUEIFY_NUM => Some(Fields(Num, Val, Unused, FromTo)),
+            Self::VALUEIFY_STR => Some(Fields(Str, Val, Unused, FromTo)),
+            Self::STRINGIFY_NUM => Some(Fields(Num, Str, Unused, FromTo)),
+            Self::STRINGIFY_VAL => Some(Fields(Val, Str, Unused, FromTo)),
+            Self::NUMBERIFY_VAL | Self::IS_TRUTHY_VAL | Self::NOT_VAL => Some(Fields(
                 Val, Num, Unused, FromTo,
-            ),
+            )),
             Self::ADD_NUM
             | Self::SUB_NUM
             | Self::MUL
             | Self::DIV
             | Self::REM
             | Self::POW
-            | Self::AND..=Self::OR => Are(Num, Num, Unused, Two),
-            Self::ADD_STR | Self::SUB_STR => Are(Str, Str, Unused, Two),
-            Self::ADD_VAL | Self::SUB_VAL => Are(Val, Val, Unused, Two),
-            Self::EQ..=Self::LT => Are(Val, Val, Num, Compared),
-            Self::ADD_SELF_STR | Self::INC_STR | Self::DEC_STR => Are(Str, Unused, Unused, Itself),
-            Self::ADD_SELF_VAL | Self::SUB_SELF_VAL | Self::INC_VAL | Self::DEC_VAL => Are(
+            | Self::AND..=Self::OR => Some(Fields(Num, Num, Unused, Two)),
+            Self::ADD_STR | Self::SUB_STR => Some(Fields(Str, Str, Unused, Two)),
+            Self::ADD_VAL | Self::SUB_VAL => Some(Fields(Val, Val, Unused, Two)),
+            Self::EQ..=Self::LT => Some(Fields(Val, Val, Num, Compared)),
+            Self::ADD_SELF_STR | Self::INC_STR | Self::DEC_STR => Some(Fields(
+                Str, Unused, Unused, Itself,
+            )),
+            Self::ADD_SELF_VAL | Self::SUB_SELF_VAL | Self::INC_VAL | Self::DEC_VAL => Some(Fields(
                 Val, Unused, Unused, Itself,
-            ),
-            Self::IS_TRUTHY_NUM..=Self::NEG => Are(Num, Unused, Unused, Itself),
-            _ => Fields::Refused,
+            )),
+            Self::IS_TRUTHY_NUM..=Self::NEG => Some(Fields(Num, Unused, Unused, Itself)),
+            _ => None,
         }
     }
 
@@ -538,7 +503,7 @@ impl Instruction {
     pub fn reads(self) -> Reads
         ensures { Told.readsTold result ≡ Told.counted (Instr.reads (wordIns self.0)) }
     {
-        let Fields::Are(a, b, _, flow) = Self::fields(self.op()) else {
+        let Some(Fields(a, b, _, flow)) = Self::fields(self.op()) else {
             return Reads::none();
         };
         match flow {
@@ -553,17 +518,17 @@ impl Instruction {
     }
 
     #[tactic(auto, using(crate::proofs::Rows::modifies_told))]
-    pub fn modifies(self) -> Modified
+    pub fn modifies(self) -> Option<AnyReg>
         ensures { Told.modifiedTold result ≡ Instr.modifies (wordIns self.0) }
     {
-        let Fields::Are(a, b, c, flow) = Self::fields(self.op()) else {
-            return Modified::Nothing;
+        let Some(Fields(a, b, c, flow)) = Self::fields(self.op()) else {
+            return None;
         };
         match flow {
-            Flow::Nothing | Flow::Tested => Modified::Nothing,
-            Flow::Itself | Flow::Two => Modified::Reg(AnyReg::of(a, self.fst())),
-            Flow::FromTo => Modified::Reg(AnyReg::of(b, self.snd())),
-            Flow::Compared => Modified::Reg(AnyReg::of(c, self.thd())),
+            Flow::Nothing | Flow::Tested => None,
+            Flow::Itself | Flow::Two => Some(AnyReg::of(a, self.fst())),
+            Flow::FromTo => Some(AnyReg::of(b, self.snd())),
+            Flow::Compared => Some(AnyReg::of(c, self.thd())),
         }
     }
 
@@ -574,13 +539,10 @@ impl Instruction {
     }
 
     #[tactic(auto, unfolding(rules::specs::Instr::getSection))]
-    pub fn get_section(self) -> Target
+    pub fn get_section(self) -> Option<Section>
         ensures { Told.targetTold result ≡ Instr.getSection (wordIns self.0) }
     {
-        if self.is_jump() {
-            return Target::At(Section(self.fst()));
-        }
-        Target::Nowhere
+        self.is_jump().then_some(Section(self.fst()))
     }
 
     // A jump with another target; any other instruction as it is.
@@ -597,7 +559,7 @@ impl Instruction {
     pub fn remove_reg(self, reg: AnyReg) -> Instruction
         ensures { result.0 ≡ insWord (Instr.removeReg (Told.regTold reg).0 (Told.regTold reg).1 (wordIns self.0)) }
     {
-        let Fields::Are(a, b, c, _) = Self::fields(self.op()) else {
+        let Some(Fields(a, b, c, _)) = Self::fields(self.op()) else {
             return self.plain();
         };
         let fst = reg.fall_of(a, self.fst());
@@ -613,36 +575,28 @@ impl Instruction {
         self.aimed(Section(fall(section.0, self.fst())))
     }
 
+    // Did it jump to the removed section? If not, the section is removed from it.
     #[tactic(auto, unfolding(rules::specs::Instr::checkedRemoveSection, rules::specs::Instr::getSection))]
-    pub fn checked_remove_section(self, section: Section) -> Checked
-        ensures { Told.checkedTold result ≡ Told.packed (Instr.checkedRemoveSection section.0 (wordIns self.0)) }
+    pub fn checked_remove_section(&mut self, section: Section) -> bool
+        ensures { (result, self.new.0) ≡ Told.packed (Instr.checkedRemoveSection section.0 (wordIns self.old.0)) }
     {
-        let Target::At(target) = self.get_section() else {
-            return Checked {
-                jumped: false,
-                instr: self.plain(),
-            };
+        let jumped = self.get_section() == Some(section);
+        *self = if jumped {
+            self.plain()
+        } else {
+            self.remove_section(section)
         };
-        if target.0 == section.0 {
-            return Checked {
-                jumped: true,
-                instr: self.plain(),
-            };
-        }
-        Checked {
-            jumped: false,
-            instr: self.remove_section(section),
-        }
+        jumped
     }
 
     #[tactic(auto, unfolding(rules::specs::Instr::canRuntimeErr))]
     pub fn can_runtime_err(self) -> bool
         ensures { result ≡ Instr.canRuntimeErr (wordIns self.0).op }
     {
-        match self.op() {
-            Self::NUMBERIFY_VAL | Self::DIV | Self::REM | Self::DEC_STR | Self::DEC_VAL => true,
-            _ => false,
-        }
+        matches!(
+            self.op(),
+            Self::NUMBERIFY_VAL | Self::DIV | Self::REM | Self::DEC_STR | Self::DEC_VAL
+        )
     }
 
     // The rule for an opcode whose first two fields are one register.

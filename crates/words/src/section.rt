@@ -12,7 +12,7 @@ use crate::instr::{NumReg, Section};
 use params::limits::MARK;
 
 // A successor: not fixed yet, a section, or the line that a number register says. Section 65,535 is no section: its word is that of Unfixed.
-#[derive(Clone, Copy)]
+#[derive(Clone, Copy, PartialEq, Eq)]
 pub enum SectionOrLine {
     Unfixed,
     Section(Section),
@@ -27,8 +27,7 @@ impl SectionOrLine {
         ensures { result ≡ Tables.kindOf (Runs.successTold self) }
     {
         match self {
-            SectionOrLine::Unfixed => SectionWord::SECTION,
-            SectionOrLine::Section(_) => SectionWord::SECTION,
+            SectionOrLine::Unfixed | SectionOrLine::Section(_) => SectionWord::SECTION,
             SectionOrLine::Line(_) => SectionWord::LINE,
         }
     }
@@ -45,19 +44,13 @@ impl SectionOrLine {
     }
 }
 
-// The field of a flag.
-#[tactic(auto, unfolding(rules::specs::Tables::flag))]
-fn flag(b: bool) -> u64
-    ensures { result ≡ Tables.flag b }
-{
-    if b { 1 } else { 0 }
-}
-
 // A section's word: line start (1 bit), kind (1: 0 section, 1 line), target (16), first instruction (16), count (16), 14 zero bits.
 #[derive(Clone, Copy)]
 pub struct SectionWord(pub u64);
 
 impl SectionWord {
+    // The bit of the kind, as it stands in the word and is printed; `SectionOrLine` is the enum.
+
     const SECTION: u64 = 0;
 
     const LINE: u64 = 1;
@@ -70,17 +63,18 @@ impl SectionWord {
         SectionWord(
             (start << 63)
                 + (kind << 62)
-                + ((target as u64) << 46)
-                + ((first as u64) << 30)
-                + ((count as u64) << 14),
+                + (u64::from(target) << 46)
+                + (u64::from(first) << 30)
+                + (u64::from(count) << 14),
         )
     }
 
-    #[tactic(auto, using(crate::proofs::Sections::one_bit))]
+    #[tactic(auto, using(crate::proofs::Sections::one_bit), unfolding(rules::specs::Tables::flag))]
     pub fn pack(start: bool, success: SectionOrLine, first: u16, count: u16) -> SectionWord
         ensures { result.0 ≡ runWord (runOf start (Runs.successTold success) first count) }
     {
-        Self::word(flag(start), success.kind(), success.target(), first, count)
+        let flag = u64::from(start);
+        Self::word(flag, success.kind(), success.target(), first, count)
     }
 
     #[tactic(auto, unfolding(rules::specs::Word::wordRun))]

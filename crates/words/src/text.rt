@@ -16,7 +16,7 @@ impl StringWord {
         requires { length ≤ mostChars }
         ensures { result.0 ≡ spanWord (Runs.span start length) }
     {
-        StringWord(((start as u32) << 16) + ((length as u32) << 9))
+        StringWord((u32::from(start) << 16) + (u32::from(length) << 9))
     }
 
     #[tactic(auto, unfolding(rules::specs::Word::wordSpan))]
