@@ -14,8 +14,11 @@ use Rattle.rules.specs.Bits.{Res, refused, ok, field, spelled}
 use Rattle.rules.specs.Parse.{Reader, At, succeed, refuse, demand, begin, bits, many, operator, nameOf, ◌>>=◌}
 use Rattle.bits.specs.Reads.{Gives, Fine, Took, Passed, Passes, Ends, Skips, at, belowR, beginR, charsAt}
 use Rattle.bits.specs.declared.Cursor.{Cursor}
-use Rattle.bits.specs.declared.Step.{Step}
-use Rattle.bits.specs.declared.Step.TheVariants.{Next, Refused}
+use Rattle.std.specs.Prelude.{Result, Ok, Err}
+use Rattle.std.specs.Int.{from_bool}
+use Rattle.std.specs.Result.{IsErrAnd}
+use Rattle.std.proofs.lemmas.Result.{err_from_is_err_and}
+use Rattle.params.specs.declared.refusal.Refusal.{Refusal}
 use Rattle.bits.proofs.Bits.{inside, field-in, field-out}
 
 pub done : {A : Type 0} {a : A} {s : List ℕ} {c : At} → Gives (succeed a) s c (ok (a, c))
@@ -31,6 +34,10 @@ then k d e = record { is = rw (d.is, ◌>>=◌) e.is }
 pub stop : {A B : Type 0} {m : Reader A} (k : A → Reader B) {s : List ℕ} {c : At} {n : ℕ} → Gives m s c (refused n) → Gives (m >>= k) s c (refused n)
 unfolding ◌>>=◌
 stop k d = record { is = rw (d.is, ◌>>=◌) }
+
+-- a refusal that a `?` passes on
+pub passed : {A : Type 0} {st : Result A Refusal} {e : Refusal} → IsErrAnd st (λ y. y ≡ e) → st ≡ Err e
+passed {st = st} h = let p = err_from_is_err_and st h in p.1 ∙ ap Err p.2
 
 -- ---- a reader gives one result
 
@@ -265,6 +272,10 @@ recount-out w {s} {p} {n} {x} k g = by (leb (p + w) (byteBits * length s)) refl
         let e : x ≡ endsInField = inject-refused (unique g (bits-out s w (record { pos = p; nodes = n }) out)) in
         rw e (bits-out s w (record { pos = p; nodes = k }) out)
 
+pub flag-small : (b : Bool) → from_bool b ≤ 1
+flag-small true = omega arith
+flag-small false = omega arith
+
 -- a node is counted with the bits of its kind, two at least
 pub begun : {s : List ℕ} {w more d v : ℕ} {c e : Cursor} → (d ≡ 0 → ⊥) → c.nodes < mostNodes → 2 ≤ w → more ≤ 1 → Fine s c → Took (bits w) s c 0 0 (2 ^ w) v e
     → Took (beginR w d) s c 1 more (2 ^ w) v (record { pos = e.pos; nodes = e.nodes + 1; statements = e.statements + more; sections = e.sections + more; strings = e.strings; chars = e.chars })
@@ -280,7 +291,7 @@ begun-out w d {s} {x} {c} z h g = begin-then w d z (begins s c h) (recount-out w
 -- ---- bits that are passed over
 
 -- as a field
-pub pass-bits : {s : List ℕ} {c d : Cursor} {w v : ℕ} → Passed w s c v d → Gives (bits w) s (at c) (ok (spelled s w c.pos, at d))
+pub pass-bits : {s : List ℕ} {c d : Cursor} {w : ℕ} → Passed w s c d → Gives (bits w) s (at c) (ok (spelled s w c.pos, at d))
 pass-bits {s} {c} {d} {w} h =
     let m = h.moved in
     let n : d.nodes ≡ c.nodes = omega arith in
@@ -290,10 +301,10 @@ pub ends-bits : {s : List ℕ} {c : Cursor} {w x : ℕ} → Ends w s c x → Giv
 ends-bits {s} {c} {w} h = rw h.is (bits-out s w (at c) (sym (field-out s w c.pos h.outside)))
 
 -- as characters
-pub pass-chars : (n : ℕ) {s : List ℕ} {c : Cursor} (st : Step) → Fine s c → Passes (charBits * n) s c st → Skips n s c st
-pass-chars n {s} {c} (Next v d) f p =
+pub pass-chars : (n : ℕ) {s : List ℕ} {c : Cursor} (st : Result Cursor Refusal) → Fine s c → Passes (charBits * n) s c st → Skips n s c st
+pass-chars n {s} {c} (Ok d) f p =
     let h = p.here in
     let m = h.moved in
     let k : d.nodes ≡ c.nodes = omega arith in
-    record { here = record { reads = rw (h.place, k) (chars-in n s c.pos c.nodes h.inside); valueless = h.valueless; place = h.place; moved = m; fine = h.fine } }
-pass-chars n {s} {c} (Refused x) f p = let h = p.here in record { here = rw h.is (chars-out n s c.pos c.nodes f.inside h.outside) }
+    record { here = record { reads = rw (h.place, k) (chars-in n s c.pos c.nodes h.inside); place = h.place; moved = m; fine = h.fine } }
+pass-chars n {s} {c} (Err x) f p = let h = p.here in record { here = rw h.is (chars-out n s c.pos c.nodes f.inside h.outside) }

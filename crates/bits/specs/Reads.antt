@@ -1,29 +1,25 @@
 -- What a step of the reader gives, in terms of the readers of rules. Definitions and the parts of contracts; nothing is assumed.
-use Rattle.std.specs.Prelude.{◌≡◌, List, [], ◌∷◌, ℕ, zero, suc, ◌+◌, ◌*◌, ◌≤◌, ◌<◌, ltb, length}
+use Rattle.std.specs.Prelude.{Option, Some, None, Result, Ok, Err, ◌≡◌, List, [], ◌∷◌, ℕ, zero, suc, ◌+◌, ◌*◌, ◌≤◌, ◌<◌, ltb, length}
 use Rattle.rules.specs.Constants.{mostBytes, mostNodes, mostChars, byteBits, charBits}
 use Rattle.rules.specs.Refusal.{endsInField, tooDeep}
 use Rattle.rules.specs.Bits.{Res, refused, ok, spelled, field}
 use Rattle.rules.specs.Parse.{Reader, At, succeed, refuse, demand, begin, bits, many, ◌>>=◌}
-use Rattle.bits.specs.declared.End.{End}
-use Rattle.bits.specs.declared.End.TheVariants.{At as EndsAt, Past}
-use Rattle.bits.specs.declared.Field.{Field}
-use Rattle.bits.specs.declared.Field.TheVariants.{Value, Short}
+use Rattle.params.specs.Told.{numberOf}
+use Rattle.params.specs.declared.refusal.Refusal.{Refusal}
 use Rattle.bits.specs.declared.Cursor.{Cursor}
-use Rattle.bits.specs.declared.Step.{Step}
-use Rattle.bits.specs.declared.Step.TheVariants.{Next, Refused}
 
 -- where the field of w bits at p ends, if it is there
 unfoldable pub fieldEnd : List ℕ → ℕ → ℕ → Res ℕ
 fieldEnd s w p = elim (field s w p) [ refused n ↦ refused n | ok r ↦ ok r.1 ]
 
 -- that answer, and a field's, as rules gives them
-abbrev pub endRes : End → Res ℕ
-endRes (EndsAt p) = ok p
-endRes Past = refused endsInField
+abbrev pub endRes : Option ℕ → Res ℕ
+endRes (Some p) = ok p
+endRes None = refused endsInField
 
-abbrev pub fieldRes : Field → Res (ℕ × ℕ)
-fieldRes (Value v p) = ok (v, p)
-fieldRes Short = refused endsInField
+abbrev pub fieldRes : Option (ℕ × ℕ) → Res (ℕ × ℕ)
+fieldRes (Some p) = ok (p.0, p.1)
+fieldRes None = refused endsInField
 
 -- the reader r gives res on the bytes s at c
 pub record Gives {A : Type 0} (r : Reader A) (s : List ℕ) (c : At) (res : Res (A × At)) : Type 0 where
@@ -59,11 +55,11 @@ pub record Took (r : Reader ℕ) (s : List ℕ) (c : Cursor) (n m limit v : ℕ)
   pub fine : Fine s c'
 
 -- a step that reads a number below the limit, and nothing of a tree
-abbrev pub TakesAt : Reader ℕ → List ℕ → Cursor → ℕ → ℕ → ℕ → Step → Type 0
-TakesAt r s c n m limit (Next v c') = Took r s c n m limit v c'
-TakesAt r s c n m limit (Refused k) = Gives r s (at c) (refused k)
+abbrev pub TakesAt : Reader ℕ → List ℕ → Cursor → ℕ → ℕ → ℕ → Result (ℕ × Cursor) Refusal → Type 0
+TakesAt r s c n m limit (Ok p) = Took r s c n m limit p.0 p.1
+TakesAt r s c n m limit (Err k) = Gives r s (at c) (refused (numberOf k))
 
-pub record Takes (r : Reader ℕ) (s : List ℕ) (c : Cursor) (n m limit : ℕ) (st : Step) : Type 0 where
+pub record Takes (r : Reader ℕ) (s : List ℕ) (c : Cursor) (n m limit : ℕ) (st : Result (ℕ × Cursor) Refusal) : Type 0 where
   pub here : TakesAt r s c n m limit st
 
 -- w bits that are refused by k unless they are below the limit
@@ -85,10 +81,9 @@ unfoldable pub charsAt : List ℕ → ℕ → ℕ → List ℕ
 charsAt s zero p = []
 charsAt s (suc n) p = spelled s charBits p ∷ charsAt s n (p + charBits)
 
--- w bits are there, and are passed over: the step has no value
-pub record Passed (w : ℕ) (s : List ℕ) (c : Cursor) (v : ℕ) (c' : Cursor) : Type 0 where
+-- w bits are there, and are passed over
+pub record Passed (w : ℕ) (s : List ℕ) (c c' : Cursor) : Type 0 where
   pub inside : c.pos + w ≤ byteBits * length s
-  pub valueless : v ≡ 0
   pub place : c'.pos ≡ c.pos + w
   pub moved : Moved 0 0 c c'
   pub fine : Fine s c'
@@ -98,23 +93,22 @@ pub record Ends (w : ℕ) (s : List ℕ) (c : Cursor) (k : ℕ) : Type 0 where
   pub is : k ≡ endsInField
   pub outside : byteBits * length s < c.pos + w
 
-abbrev pub PassesAt : ℕ → List ℕ → Cursor → Step → Type 0
-PassesAt w s c (Next v c') = Passed w s c v c'
-PassesAt w s c (Refused k) = Ends w s c k
+abbrev pub PassesAt : ℕ → List ℕ → Cursor → Result Cursor Refusal → Type 0
+PassesAt w s c (Ok c') = Passed w s c c'
+PassesAt w s c (Err k) = Ends w s c (numberOf k)
 
-pub record Passes (w : ℕ) (s : List ℕ) (c : Cursor) (st : Step) : Type 0 where
+pub record Passes (w : ℕ) (s : List ℕ) (c : Cursor) (st : Result Cursor Refusal) : Type 0 where
   pub here : PassesAt w s c st
 
-pub record Skipped (n : ℕ) (s : List ℕ) (c : Cursor) (v : ℕ) (c' : Cursor) : Type 0 where
+pub record Skipped (n : ℕ) (s : List ℕ) (c c' : Cursor) : Type 0 where
   pub reads : Gives (many n (bits charBits)) s (at c) (ok (charsAt s n c.pos, at c'))
-  pub valueless : v ≡ 0
   pub place : c'.pos ≡ c.pos + charBits * n
   pub moved : Moved 0 0 c c'
   pub fine : Fine s c'
 
-abbrev pub SkipsAt : ℕ → List ℕ → Cursor → Step → Type 0
-SkipsAt n s c (Next v c') = Skipped n s c v c'
-SkipsAt n s c (Refused k) = Gives (many n (bits charBits)) s (at c) (refused k)
+abbrev pub SkipsAt : ℕ → List ℕ → Cursor → Result Cursor Refusal → Type 0
+SkipsAt n s c (Ok c') = Skipped n s c c'
+SkipsAt n s c (Err k) = Gives (many n (bits charBits)) s (at c) (refused (numberOf k))
 
-pub record Skips (n : ℕ) (s : List ℕ) (c : Cursor) (st : Step) : Type 0 where
+pub record Skips (n : ℕ) (s : List ℕ) (c : Cursor) (st : Result Cursor Refusal) : Type 0 where
   pub here : SkipsAt n s c st

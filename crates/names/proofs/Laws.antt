@@ -5,16 +5,18 @@ use mathlib.Core.List.{List, [], ◌∷◌, ◌++◌}
 use Prim.Native.Nat.{ℕ, zero, suc, ◌+◌, ◌-◌, ◌*◌, ◌^◌, ◌<◌, ◌≤◌}
 use native.Mathlib.Omega.{arith}
 use native.Mathlib.Numerals.{add-one, sub-one}
-use borrow.Author.Tests.{eq-eqb, ne_eqb, eqb-true, eqb-false}
-use lib.Dec.{eqb}
-use Rattle.rules.specs.Constants.{flagBits, nameLengthBits, charBits}
+use borrow.Author.Tests.{eq-eqb, ne_eqb, eqb-true, eqb-false, leb-true, leb-false}
+use lib.Dec.{eqb, leb}
+use Rattle.std.specs.Char.{to_ascii_lowercase}
+use Rattle.std.proofs.lemmas.Str.Ascii.{lowercase_is}
+use Rattle.rules.specs.Constants.{upperA, upperZ, flagBits, nameLengthBits, charBits}
 use Rattle.rules.specs.Refusal.{equalNames}
 use Rattle.rules.specs.Bits.{Res, refused, ok, spelled, isOne}
 use Rattle.rules.specs.Tree.{Name}
 use Rattle.rules.specs.Parse.{At, name, names, known, sameName, toLowercase, sameChars, bits}
 use Rattle.bits.specs.Reads.{Gives, Fine, Took, Skips, at, charsAt}
-use Rattle.bits.specs.declared.Step.{Step}
-use Rattle.bits.specs.declared.Step.TheVariants.{Next, Refused}
+use Rattle.std.specs.Prelude.{Result, Ok, Err}
+use Rattle.params.specs.declared.refusal.Refusal.{Refusal}
 use Rattle.bits.specs.declared.Cursor.{Cursor}
 use Rattle.names.specs.Names.{headerBits, charsOf, nameAt, nextName, namesAt, endAt, Named, NamedAll, NamesMid, NamesOne}
 use Rattle.laws.specs.Texts.{spelled-lt}
@@ -73,6 +75,16 @@ differ-first s p q h = by (eqb (spelled s nameLengthBits (p + flagBits)) (spelle
         let l : (spelled s nameLengthBits (p + flagBits) ≡ spelled s nameLengthBits (q + flagBits) → ⊥) = eqb-false _ _ e in
         rw (lengths-differ s (suc (spelled s nameLengthBits (p + flagBits))) (suc (spelled s nameLengthBits (q + flagBits))) (p + headerBits) (q + headerBits) (λ g. l (omega arith))) (sym (and-false (beq (isOne (spelled s flagBits p)) (isOne (spelled s flagBits q)))))
 
+-- a character in lower case, as the library has it
+pub lowered : (c : ℕ) → to_ascii_lowercase c ≡ toLowercase c
+unfolding toLowercase
+lowered c = by (leb upperA c) refl (leb c upperZ) refl
+  where
+    by : (a : Bool) → leb upperA c ≡ a → (z : Bool) → leb c upperZ ≡ z → to_ascii_lowercase c ≡ toLowercase c
+    by true h true g = (lowercase_is c).0 (leb-true _ _ h, leb-true _ _ g) ∙ sym (rw (toLowercase, h, g))
+    by true h false g = (lowercase_is c).2 (leb-false _ _ g) ∙ sym (rw (toLowercase, h, g))
+    by false h z g = (lowercase_is c).1 (leb-false _ _ h) ∙ sym (rw (toLowercase, h))
+
 -- characters compared one by one, in lower case
 pub chars-more : (s : List ℕ) (n a b : ℕ) → 0 < n → toLowercase (spelled s charBits a) ≡ toLowercase (spelled s charBits b) → sameChars (charsAt s (n - 1) (a + charBits)) (charsAt s (n - 1) (b + charBits)) ≡ sameChars (charsAt s n a) (charsAt s n b)
 unfolding charsAt sameChars
@@ -83,6 +95,15 @@ pub chars-differ : (s : List ℕ) (n a b : ℕ) → 0 < n → (toLowercase (spel
 unfolding charsAt sameChars
 chars-differ s zero a b h e = absurd (omega arith)
 chars-differ s (suc n) a b h e = rw (ne_eqb (toLowercase (spelled s charBits a)) (toLowercase (spelled s charBits b)) e)
+
+-- the same k characters in
+pub chars-step : (s : List ℕ) (n k a b : ℕ) → k < n → toLowercase (spelled s charBits (a + charBits * k)) ≡ toLowercase (spelled s charBits (b + charBits * k))
+    → sameChars (charsAt s (n - (k + 1)) (a + charBits * (k + 1))) (charsAt s (n - (k + 1)) (b + charBits * (k + 1))) ≡ sameChars (charsAt s (n - k) (a + charBits * k)) (charsAt s (n - k) (b + charBits * k))
+chars-step s n k a b h e =
+    let m : n - (k + 1) ≡ n - k - 1 = omega arith in
+    let x : a + charBits * (k + 1) ≡ a + charBits * k + charBits = omega arith in
+    let y : b + charBits * (k + 1) ≡ b + charBits * k + charBits = omega arith in
+    rw (m, x, y) (chars-more s (n - k) (a + charBits * k) (b + charBits * k) (omega arith) e)
 
 pub chars-end : (s : List ℕ) (n a b : ℕ) → n ≤ 0 → true ≡ sameChars (charsAt s n a) (charsAt s n b)
 unfolding charsAt sameChars
@@ -153,7 +174,7 @@ names-end zero ys h = done
 names-end (suc l) ys h = absurd (omega arith)
 
 module _ {n : ℕ} {s : List ℕ} {c d : Cursor} {k : ℕ} (m : NamesMid n s c d k) where
-  pub names-more : {v : ℕ} {e : Cursor} → k < n → Named s d v e → known (nameAt s d.pos) (namesAt s k c.pos) ≡ false → NamesMid n s c e (k + 1)
+  pub names-more : {e : Cursor} → k < n → Named s d e → known (nameAt s d.pos) (namesAt s k c.pos) ≡ false → NamesMid n s c e (k + 1)
   names-more {e = e} h x z =
       let v = m.moved in
       let w = x.moved in
@@ -169,23 +190,23 @@ module _ {n : ℕ} {s : List ℕ} {c d : Cursor} {k : ℕ} (m : NamesMid n s c d
   pub names-stop : {x : ℕ} → k < n → Gives name s (at d) (refused x) → Gives (names n []) s (at c) (refused x)
   names-stop h g = m.goes _ (names-short (n - k) _ (omega arith) g)
 
-  pub names-old : {v : ℕ} {e : Cursor} → k < n → Named s d v e → known (nameAt s d.pos) (namesAt s k c.pos) ≡ true → Gives (names n []) s (at c) (refused equalNames)
+  pub names-old : {e : Cursor} → k < n → Named s d e → known (nameAt s d.pos) (namesAt s k c.pos) ≡ true → Gives (names n []) s (at c) (refused equalNames)
   names-old h x z = m.goes _ (names-twice (n - k) _ (omega arith) x.reads z)
 
-  pub names-done : n ≤ k → k ≤ n → NamedAll n s c 0 d
+  pub names-done : n ≤ k → k ≤ n → NamedAll n s c d
   names-done h l =
       let e : n ≡ k = omega arith in
       let f : namesAt s n c.pos ≡ namesAt s k c.pos = ap (λ (x : ℕ). namesAt s x c.pos) e in
-      record { reads = rw f (m.goes _ (names-end (n - k) (namesAt s k c.pos) (omega arith))); valueless = refl; place = m.place ∙ ap (λ (x : ℕ). endAt s x c.pos) (sym e); moved = m.moved; fine = m.fine }
+      record { reads = rw f (m.goes _ (names-end (n - k) (namesAt s k c.pos) (omega arith))); place = m.place ∙ ap (λ (x : ℕ). endAt s x c.pos) (sym e); moved = m.moved; fine = m.fine }
 
 pub names-start : (n : ℕ) (s : List ℕ) (c : Cursor) → Fine s c → NamesMid n s c c 0
 unfolding namesAt endAt
 names-start n s c f = let e : n - 0 ≡ n = omega arith in record { goes = λ res g. rw e at g; place = refl; moved = omega arith; fine = f }
 
 -- a flag, a length and characters are a name
-pub one-built : {s : List ℕ} {c d e : Cursor} {f l : ℕ} → Took (bits flagBits) s c 0 0 (2 ^ flagBits) f d → Took (bits nameLengthBits) s d 0 0 (2 ^ nameLengthBits) l e → (st : Step) → Skips (l + 1) s e st → NamesOne s c st
+pub one-built : {s : List ℕ} {c d e : Cursor} {f l : ℕ} → Took (bits flagBits) s c 0 0 (2 ^ flagBits) f d → Took (bits nameLengthBits) s d 0 0 (2 ^ nameLengthBits) l e → (st : Result Cursor Refusal) → Skips (l + 1) s e st → NamesOne s c st
 unfolding name nameAt nextName charsOf
-one-built {s = s} {c = c} {d = d} {e = e} {f = f} {l = l} b x (Next v g) u =
+one-built {s = s} {c = c} {d = d} {e = e} {f = f} {l = l} b x (Ok g) u =
     let h = u.here in
     let p = spells b.reads in
     let q = spells x.reads in
@@ -199,13 +220,12 @@ one-built {s = s} {c = c} {d = d} {e = e} {f = f} {l = l} b x (Next v g) u =
     record {
       here = record {
         reads = rw (← p.is, ← k, ← y) (then _ b.reads (then _ x.reads (then _ (rw add-one at h.reads) done)));
-        valueless = h.valueless;
         place = rw (← y) (omega (arith, h.place));
         moved = omega arith;
         fine = h.fine;
       };
     }
-one-built b x (Refused k) u = record { here = then _ b.reads (then _ x.reads (stop _ (rw add-one at u.here))) }
+one-built b x (Err k) u = record { here = then _ b.reads (then _ x.reads (stop _ (rw add-one at u.here))) }
 
 pub next-in : (s : List ℕ) (k q : ℕ) → 0 < k → nextName s q ≤ endAt s k q
 next-in s k q h = let e = end-more s k q h in let g = end-ge s (k - 1) (nextName s q) in omega arith

@@ -1,13 +1,13 @@
 -- The names of a file, where they stand, and what the steps that read them give. Nothing is assumed.
-use Rattle.std.specs.Prelude.{◌≡◌, List, [], ◌∷◌, ℕ, zero, suc, ◌+◌, ◌-◌, ◌*◌}
+use Rattle.std.specs.Prelude.{Result, Ok, Err, ◌≡◌, List, [], ◌∷◌, ℕ, zero, suc, ◌+◌, ◌-◌, ◌*◌}
 use Rattle.rules.specs.Constants.{headBits, nameBits, flagBits, nameLengthBits, charBits}
 use Rattle.rules.specs.Bits.{Res, refused, ok, spelled, isOne}
 use Rattle.rules.specs.Tree.{Name}
 use Rattle.rules.specs.Parse.{At, name, names}
 use Rattle.bits.specs.Reads.{Gives, Moved, Fine, at, charsAt}
 use Rattle.bits.specs.declared.Cursor.{Cursor}
-use Rattle.bits.specs.declared.Step.{Step}
-use Rattle.bits.specs.declared.Step.TheVariants.{Next, Refused}
+use Rattle.params.specs.Told.{numberOf}
+use Rattle.params.specs.declared.refusal.Refusal.{Refusal}
 
 -- where the names of a file begin: behind form, lines and their own count
 abbrev pub firstName : ℕ
@@ -38,34 +38,32 @@ unfoldable pub endAt : List ℕ → ℕ → ℕ → ℕ
 endAt s zero p = p
 endAt s (suc k) p = endAt s k (nextName s p)
 
--- a name is read: the step has no value
-pub record Named (s : List ℕ) (c : Cursor) (v : ℕ) (c' : Cursor) : Type 0 where
+-- a name is read
+pub record Named (s : List ℕ) (c c' : Cursor) : Type 0 where
   pub reads : Gives name s (at c) (ok (nameAt s c.pos, at c'))
-  pub valueless : v ≡ 0
   pub place : c'.pos ≡ nextName s c.pos
   pub moved : Moved 0 0 c c'
   pub fine : Fine s c'
 
-abbrev pub NamesOneAt : List ℕ → Cursor → Step → Type 0
-NamesOneAt s c (Next v c') = Named s c v c'
-NamesOneAt s c (Refused k) = Gives name s (at c) (refused k)
+abbrev pub NamesOneAt : List ℕ → Cursor → Result Cursor Refusal → Type 0
+NamesOneAt s c (Ok c') = Named s c c'
+NamesOneAt s c (Err k) = Gives name s (at c) (refused (numberOf k))
 
-pub record NamesOne (s : List ℕ) (c : Cursor) (st : Step) : Type 0 where
+pub record NamesOne (s : List ℕ) (c : Cursor) (st : Result Cursor Refusal) : Type 0 where
   pub here : NamesOneAt s c st
 
 -- n names are read
-pub record NamedAll (n : ℕ) (s : List ℕ) (c : Cursor) (v : ℕ) (c' : Cursor) : Type 0 where
+pub record NamedAll (n : ℕ) (s : List ℕ) (c c' : Cursor) : Type 0 where
   pub reads : Gives (names n []) s (at c) (ok (namesAt s n c.pos, at c'))
-  pub valueless : v ≡ 0
   pub place : c'.pos ≡ endAt s n c.pos
   pub moved : Moved 0 0 c c'
   pub fine : Fine s c'
 
-abbrev pub NamesAllAt : ℕ → List ℕ → Cursor → Step → Type 0
-NamesAllAt n s c (Next v c') = NamedAll n s c v c'
-NamesAllAt n s c (Refused k) = Gives (names n []) s (at c) (refused k)
+abbrev pub NamesAllAt : ℕ → List ℕ → Cursor → Result Cursor Refusal → Type 0
+NamesAllAt n s c (Ok c') = NamedAll n s c c'
+NamesAllAt n s c (Err k) = Gives (names n []) s (at c) (refused (numberOf k))
 
-pub record NamesAll (n : ℕ) (s : List ℕ) (c : Cursor) (st : Step) : Type 0 where
+pub record NamesAll (n : ℕ) (s : List ℕ) (c : Cursor) (st : Result Cursor Refusal) : Type 0 where
   pub here : NamesAllAt n s c st
 
 -- midway: k of n names are read, and c' stands behind them

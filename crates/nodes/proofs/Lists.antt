@@ -1,5 +1,5 @@
 -- A list of statements: its count, its statements one by one, and what is known midway. Assumes nothing.
-use mathlib.Core.Path.{refl}
+use mathlib.Core.Path.{◌≡◌, refl}
 use mathlib.Core.List.{List}
 use Prim.Native.Nat.{ℕ, zero, suc, ◌-◌, ◌^◌, ◌≤◌, ◌<◌}
 use native.Mathlib.Omega.{arith}
@@ -10,12 +10,10 @@ use Rattle.rules.specs.Tree.{Block, end, ofBlock, emptyTally}
 use Rattle.rules.specs.Parse.{Reader, At, stmt, block, bits, ◌>>=◌}
 use Rattle.bits.specs.Reads.{Gives, Took, Fine, at}
 use Rattle.bits.specs.declared.Cursor.{Cursor}
-use Rattle.bits.specs.declared.Step.{Step}
 use Rattle.nodes.specs.Width.{width}
-use Rattle.nodes.specs.Builds.{listR, heldS, countS, HeldB, countB, Built, Midway, ReadsBlock, ReadsList}
+use Rattle.nodes.specs.Builds.{listR, heldS, countS, HeldB, countB, Built, Midway}
 use Rattle.nodes.specs.Holds.{at-end}
 use Rattle.bits.proofs.Gives.{then, stop, done, assoc}
-use Rattle.nodes.proofs.Built.{behind}
 use Rattle.nodes.proofs.Table.{agree-refl, agree-part, agree-trans}
 
 -- a list within a statement
@@ -54,10 +52,10 @@ block-stop (suc k) h g = stop _ g
 pub mid-start : (n dep : ℕ) (s t : List ℕ) (c : Cursor) (total : ℕ) → Fine s c → Midway n dep s t t c c total total
 mid-start n dep s t c total h = record { pre = λ xs. xs; goes = λ xs d g. g; stops = λ x g. g; holds = λ u xs j a k. k; counts = λ xs d k. k; kept = agree-refl; after = omega arith; fine = h }
 
-pub mid-more : {n dep : ℕ} {s t0 t t' : List ℕ} {c0 c : Cursor} {total left v : ℕ} {d : Cursor} → Midway n dep s t0 t c0 c total left → 0 < left
-    → Built (stmt n dep) (heldS s n) countS s t t' c c v d → Midway n dep s t0 t' c0 d total (left - 1)
+pub mid-more : {n dep : ℕ} {s t0 t t' : List ℕ} {c0 c : Cursor} {total left : ℕ} {d : Cursor} → Midway n dep s t0 t c0 c total left → 0 < left
+    → Built (stmt n dep) (heldS s n) countS s t t' c c d → Midway n dep s t0 t' c0 d total (left - 1)
 mid-more {left = left} {d = d} m h x =
-    let g = x.holds.is.grows in
+    let g = x.holds.grows in
     let a = m.after in
     record {
       pre = λ xs. m.pre (x.val xs);
@@ -65,7 +63,7 @@ mid-more {left = left} {d = d} m h x =
       stops = λ z y. m.stops z (block-later left h x.reads y);
       holds = λ u xs j b y.
           m.holds u (x.val xs) j (agree-trans (agree-part x.kept (omega arith) (omega arith)) (agree-part b (omega arith) (omega arith)))
-          (x.holds.is.puts u left (left - 1) xs j (omega arith) (agree-part b (omega arith) (omega arith)) y);
+          (x.holds.puts u left (left - 1) xs j (omega arith) (agree-part b (omega arith) (omega arith)) y);
       counts = λ xs e y. m.counts (x.val xs) e (x.counts.adds xs e y);
       kept = agree-trans m.kept (agree-part x.kept (omega arith) (omega arith));
       after = omega arith;
@@ -77,7 +75,7 @@ mid-stop {left = left} {x = x} m h g = m.stops x (block-stop left h g)
 
 -- none is left
 pub block-built : {n dep : ℕ} {s t0 t : List ℕ} {c d : Cursor} {count left : ℕ} → count < 2 ^ listBits → Midway n dep s t0 t c d count left → left ≤ 0
-    → Built (block count (stmt n dep)) (HeldB s n) countB s t0 t c c count d
+    → Built (block count (stmt n dep)) (HeldB s n count) countB s t0 t c c d
 unfolding ofBlock emptyTally width
 block-built {t = t} {d = d} {left = left} k m h =
     record {
@@ -90,6 +88,11 @@ block-built {t = t} {d = d} {left = left} k m h =
     }
 
 -- a count and the statements behind it
-pub list-from : {n : ℕ} (dep : ℕ) {s t t' : List ℕ} {c d : Cursor} {count : ℕ} {st : Step} → Took (bits listBits) s c 0 0 (2 ^ listBits) count d → ReadsBlock s t t' d n dep count st → ReadsList s t t' c n dep st
+pub list-from : {n : ℕ} (dep : ℕ) {s t t' : List ℕ} {c d e : Cursor} {count : ℕ} → Took (bits listBits) s c 0 0 (2 ^ listBits) count d → Built (block count (stmt n dep)) (HeldB s n count) countB s t t' d d e
+    → Built (listR n dep) (HeldB s n count) countB s t t' c c e
 unfolding listR
-list-from dep k u = let m = k.moved in behind (λ res g. then _ k.reads g) (omega arith) (λ x e q. omega arith) u
+list-from dep {c = c} {d = d} k u =
+    let m = k.moved in
+    let n = u.counts in
+    let e : d.nodes ≡ c.nodes = omega arith in
+    record { val = u.val; reads = then _ k.reads u.reads; holds = rw (← e) u.holds; kept = rw (← e) u.kept; counts = omega arith; fine = u.fine }

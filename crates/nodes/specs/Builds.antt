@@ -1,5 +1,5 @@
 -- What a step that fills the node table gives: it refuses as a reader of rules does, or what that reader reads stands in the table.
-use Rattle.std.specs.Prelude.{◌≡◌, List, [], ◌∷◌, ℕ, ◌+◌, ◌-◌, ◌*◌, ◌^◌, ◌≤◌, ◌<◌, min, length, get_or, set}
+use Rattle.std.specs.Prelude.{Result, Ok, Err, ◌≡◌, List, [], ◌∷◌, ℕ, ◌+◌, ◌-◌, ◌*◌, ◌^◌, ◌≤◌, ◌<◌, min, length, get_or}
 use Rattle.rules.specs.Constants.{mostNodes, mostNames, listBits, flagBits}
 use Rattle.rules.specs.Refusal.{unassigned}
 use Rattle.rules.specs.Bits.{refused, ok}
@@ -7,8 +7,8 @@ use Rattle.rules.specs.Tree.{Tally, Expr, Block, ofExpr, ofBlock}
 use Rattle.rules.specs.Parse.{Reader, At, expr, stmt, block, bits, nameOf, succeed, refuse, exprKinds, stmtKinds, incdecOf, identOf, numberOf, stringOf, ◌>>=◌}
 use Rattle.bits.specs.Reads.{Gives, at, Fine}
 use Rattle.bits.specs.declared.Cursor.{Cursor}
-use Rattle.bits.specs.declared.Step.{Step}
-use Rattle.bits.specs.declared.Step.TheVariants.{Next, Refused}
+use Rattle.params.specs.Told.{numberOf as refusalNumber}
+use Rattle.params.specs.declared.refusal.Refusal.{Refusal}
 use Rattle.nodes.specs.Width.{mostSections, width, orOne}
 use Rattle.nodes.specs.Holds.{HoldsE, HoldsB, Flag}
 
@@ -25,41 +25,36 @@ pub record Counted (k : Tally) (w : ℕ) (b c : Cursor) : Type 0 where
   pub chars : c.chars ≡ b.chars + k.characters
 
 -- r reads a value from c to c', whose nodes stand in t' from those of b on; below them the table is as it was
-pub record Built {A : Type 0} (r : Reader A) (H : List ℕ → ℕ → ℕ → A → ℕ → Type 0) (Q : A → Cursor → Cursor → Type 0) (s t t' : List ℕ) (b c : Cursor) (v : ℕ) (c' : Cursor) : Type 0 where
+pub record Built {A : Type 0} (r : Reader A) (H : List ℕ → ℕ → A → ℕ → Type 0) (Q : A → Cursor → Cursor → Type 0) (s t t' : List ℕ) (b c c' : Cursor) : Type 0 where
   pub val : A
   pub reads : Gives r s (at c) (ok (val, at c'))
-  pub holds : H t' v b.nodes val c'.nodes
+  pub holds : H t' b.nodes val c'.nodes
   pub kept : Agree 0 b.nodes t t'
   pub counts : Q val b c'
   pub fine : Fine s c'
 
-abbrev pub BuildsAt : {A : Type 0} → Reader A → (List ℕ → ℕ → ℕ → A → ℕ → Type 0) → (A → Cursor → Cursor → Type 0) → List ℕ → List ℕ → List ℕ → Cursor → Cursor → Step → Type 0
-BuildsAt r H Q s t t' b c (Next v c') = Built r H Q s t t' b c v c'
-BuildsAt r H Q s t t' b c (Refused k) = Gives r s (at c) (refused k)
+abbrev pub BuildsAt : {A : Type 0} → Reader A → (List ℕ → ℕ → A → ℕ → Type 0) → (A → Cursor → Cursor → Type 0) → List ℕ → List ℕ → List ℕ → Cursor → Cursor → Result Cursor Refusal → Type 0
+BuildsAt r H Q s t t' b c (Ok c') = Built r H Q s t t' b c c'
+BuildsAt r H Q s t t' b c (Err k) = Gives r s (at c) (refused (refusalNumber k))
 
 -- the contract of a step
-pub record Builds {A : Type 0} (r : Reader A) (H : List ℕ → ℕ → ℕ → A → ℕ → Type 0) (Q : A → Cursor → Cursor → Type 0) (s t t' : List ℕ) (b c : Cursor) (st : Step) : Type 0 where
+pub record Builds {A : Type 0} (r : Reader A) (H : List ℕ → ℕ → A → ℕ → Type 0) (Q : A → Cursor → Cursor → Type 0) (s t t' : List ℕ) (b c : Cursor) (st : Result Cursor Refusal) : Type 0 where
   pub here : BuildsAt r H Q s t t' b c st
-
--- P, of a step that has no value: it answers 0
-pub record Valueless (P : Type 0) (v : ℕ) : Type 0 where
-  pub is : P
-  pub valueless : v ≡ 0
 
 -- ---- an expression
 
-abbrev pub heldE : List ℕ → ℕ → List ℕ → ℕ → ℕ → Expr → ℕ → Type 0
-heldE s n t v i e j = Valueless (HoldsE t s n i e j) v
+abbrev pub heldE : List ℕ → ℕ → List ℕ → ℕ → Expr → ℕ → Type 0
+heldE s n t i e j = HoldsE t s n i e j
 
 abbrev pub countE : Expr → Cursor → Cursor → Type 0
 countE e b c = Counted (ofExpr e) 0 b c
 
-abbrev pub ReadsExpr : List ℕ → List ℕ → List ℕ → Cursor → ℕ → ℕ → Step → Type 0
+abbrev pub ReadsExpr : List ℕ → List ℕ → List ℕ → Cursor → ℕ → ℕ → Result Cursor Refusal → Type 0
 ReadsExpr s t t' c n d r = Builds (expr n d) (heldE s n) countE s t t' c c r
 
--- ---- a list of statements, whose count the step answers
+-- ---- a list of v statements
 
-pub record HeldB (s : List ℕ) (n : ℕ) (t : List ℕ) (v i : ℕ) (x : Block) (j : ℕ) : Type 0 where
+pub record HeldB (s : List ℕ) (n v : ℕ) (t : List ℕ) (i : ℕ) (x : Block) (j : ℕ) : Type 0 where
   pub is : HoldsB t s n v i x j
   pub few : v < 2 ^ listBits
 
@@ -67,17 +62,21 @@ abbrev pub countB : Block → Cursor → Cursor → Type 0
 countB x b c = Counted (ofBlock x) (width x) b c
 
 -- behind its count
-abbrev pub ReadsBlock : List ℕ → List ℕ → List ℕ → Cursor → ℕ → ℕ → ℕ → Step → Type 0
-ReadsBlock s t t' c n d k r = Builds (block k (stmt n d)) (HeldB s n) countB s t t' c c r
+abbrev pub ReadsBlock : List ℕ → List ℕ → List ℕ → Cursor → ℕ → ℕ → ℕ → Result Cursor Refusal → Type 0
+ReadsBlock s t t' c n d k r = Builds (block k (stmt n d)) (HeldB s n k) countB s t t' c c r
 
--- with its count
+-- with its count, which the step answers
 unfoldable pub listR : ℕ → ℕ → Reader Block
 listR n d = do
   k ← bits listBits
   block k (stmt n d)
 
-abbrev pub ReadsList : List ℕ → List ℕ → List ℕ → Cursor → ℕ → ℕ → Step → Type 0
-ReadsList s t t' c n d r = Builds (listR n d) (HeldB s n) countB s t t' c c r
+abbrev pub ListAt : List ℕ → List ℕ → List ℕ → Cursor → ℕ → ℕ → Result (ℕ × Cursor) Refusal → Type 0
+ListAt s t t' c n d (Ok p) = Built (listR n d) (HeldB s n p.0) countB s t t' c c p.1
+ListAt s t t' c n d (Err k) = Gives (listR n d) s (at c) (refused (refusalNumber k))
+
+pub record ReadsList (s t t' : List ℕ) (c : Cursor) (n d : ℕ) (st : Result (ℕ × Cursor) Refusal) : Type 0 where
+  pub here : ListAt s t t' c n d st
 
 -- ---- a statement, as what it puts before a list
 
@@ -85,8 +84,8 @@ pub record HeldS (s : List ℕ) (n : ℕ) (t : List ℕ) (i : ℕ) (f : Block �
   pub puts : (u : List ℕ) (m k : ℕ) (xs : Block) (z : ℕ) → m ≡ k + 1 → Agree i l t u → HoldsB u s n k l xs z → HoldsB u s n m i (f xs) z
   pub grows : i < l
 
-abbrev pub heldS : List ℕ → ℕ → List ℕ → ℕ → ℕ → (Block → Block) → ℕ → Type 0
-heldS s n t v i f l = Valueless (HeldS s n t i f l) v
+abbrev pub heldS : List ℕ → ℕ → List ℕ → ℕ → (Block → Block) → ℕ → Type 0
+heldS s n t i f l = HeldS s n t i f l
 
 pub record Adds (f : Block → Block) (b c : Cursor) : Type 0 where
   pub adds : (xs : Block) (e : Cursor) → countB xs c e → countB (f xs) b e
@@ -94,7 +93,7 @@ pub record Adds (f : Block → Block) (b c : Cursor) : Type 0 where
 abbrev pub countS : (Block → Block) → Cursor → Cursor → Type 0
 countS f b c = Adds f b c
 
-abbrev pub ReadsStmt : List ℕ → List ℕ → List ℕ → Cursor → ℕ → ℕ → Step → Type 0
+abbrev pub ReadsStmt : List ℕ → List ℕ → List ℕ → Cursor → ℕ → ℕ → Result Cursor Refusal → Type 0
 ReadsStmt s t t' c n d r = Builds (stmt n d) (heldS s n) countS s t t' c c r
 
 -- ---- what the steps ask
@@ -127,11 +126,6 @@ before i c = record { pos = c.pos; nodes = i; statements = c.statements; section
 abbrev pub beforeStmt : ℕ → Cursor → Cursor
 beforeStmt i c = record { pos = c.pos; nodes = i; statements = c.statements - 1; sections = c.sections - 1; strings = c.strings; chars = c.chars }
 
--- the word w at node i, and nothing else
-pub record Closed (t t' : List ℕ) (i w : ℕ) (c : Cursor) (r : Step) : Type 0 where
-  pub is : t' ≡ set t i w
-  pub next : r ≡ Next 0 c
-
 -- behind an Ite whose lists began at the sections a and b: their widths and the join are counted
 abbrev pub joined : ℕ → ℕ → Cursor → Cursor
 joined a b c = record { pos = c.pos; nodes = c.nodes; statements = c.statements; sections = a + orOne (b - a) + orOne (c.sections - b) + 1; strings = c.strings; chars = c.chars }
@@ -152,8 +146,8 @@ flagR n = do
   x ← nameOf n
   succeed (b, x)
 
-abbrev pub heldF : ℕ → ℕ → List ℕ → ℕ → ℕ → ℕ × ℕ → ℕ → Type 0
-heldF kind n t v i p j = Valueless (Flag kind n t i p.0 p.1 j) v
+abbrev pub heldF : ℕ → ℕ → List ℕ → ℕ → ℕ × ℕ → ℕ → Type 0
+heldF kind n t i p j = Flag kind n t i p.0 p.1 j
 
 -- one node more, whatever it is
 pub record OneNode (b c : Cursor) : Type 0 where

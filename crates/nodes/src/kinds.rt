@@ -1,30 +1,46 @@
-// The kinds of nodes in their words: an expression's is that of the file, a statement's is 8 more.
-pub const BINOP: u64 = 0;
+// The kinds of nodes, by their numbers in words: an expression's is that of the file, a statement's is 8 more.
+ghost use Rattle.nodes.specs.Kinds.{KindOf};
 
-pub const UNOP: u64 = 1;
+use params::refusal::Refusal;
 
-pub const INCDEC: u64 = 2;
+// A statement's kind is its number in the file, counted from here.
+pub const STATEMENTS: u64 = NodeKind::Goto as u64;
 
-pub const IDENT: u64 = 3;
+// The kind of a node.
+#[derive(Clone, Copy)]
+pub enum NodeKind {
+    Binop = 0,
+    Unop,
+    Incdec,
+    Ident,
+    Number,
+    String,
+    Goto = 8,
+    Ite,
+    // An Incdec as a statement.
+    Step,
+    Assign,
+}
 
-pub const NUMBER: u64 = 4;
+// The kind of a number; one that is no kind's is unassigned. An enum's number is no pattern, so the numbers stand here again.
+impl TryFrom<u64> for NodeKind {
+    type Error = Refusal;
 
-pub const STRING: u64 = 5;
+    ghost try_from_gives = { KindOf };
 
-pub const GOTO: u64 = 8;
-
-pub const ITE: u64 = 9;
-
-// An Incdec as a statement.
-pub const STEP: u64 = 10;
-
-pub const ASSIGN: u64 = 11;
-
-// A statement's kinds in the file.
-pub const FILE_GOTO: u64 = 0;
-
-pub const FILE_ITE: u64 = 1;
-
-pub const FILE_STEP: u64 = 2;
-
-pub const FILE_ASSIGN: u64 = 3;
+    fn try_from(number: u64) -> Result<Self, Refusal> {
+        match number {
+            0 => Ok(NodeKind::Binop),
+            1 => Ok(NodeKind::Unop),
+            2 => Ok(NodeKind::Incdec),
+            3 => Ok(NodeKind::Ident),
+            4 => Ok(NodeKind::Number),
+            5 => Ok(NodeKind::String),
+            8 => Ok(NodeKind::Goto),
+            9 => Ok(NodeKind::Ite),
+            10 => Ok(NodeKind::Step),
+            11 => Ok(NodeKind::Assign),
+            _ => Err(Refusal::Unassigned),
+        }
+    }
+}

@@ -1,7 +1,7 @@
 -- Laws of lines and of the whole file. Assumes nothing.
 use mathlib.Core.Path.{◌≡◌, refl, sym, ◌∙◌, ap}
 use mathlib.Core.List.{List, [], ◌∷◌}
-use Prim.Native.Nat.{ℕ, zero, suc, ◌+◌, ◌-◌, ◌*◌, ◌/◌, ◌%◌, ◌^◌, ◌<◌, ◌≤◌}
+use Prim.Native.Nat.{ℕ, zero, suc, ◌+◌, ◌-◌, ◌*◌, ◌^◌, ◌<◌, ◌≤◌}
 use native.Mathlib.Omega.{arith}
 use native.Mathlib.Numerals.{sub-one}
 use borrow.Author.Tests.{eq-eqb, ne_eqb, lt-ltb, le-ltb, le-leb, lt-leb}
@@ -17,9 +17,11 @@ use Rattle.bits.specs.Reads.{Gives, Fine, Took, at}
 use Rattle.bits.specs.declared.Cursor.{Cursor}
 use Rattle.names.specs.Names.{firstName, namesAt, endAt, NamedAll}
 use Rattle.nodes.specs.Builds.{listR, Built, HeldB, countB}
-use Rattle.tree.specs.declared.SizeAnswer.{SizeAnswer}
-use Rattle.tree.specs.declared.SizeAnswer.TheVariants.{Sized, Refused as No}
-use Rattle.tree.specs.Files.{headValues, Ended, lineWord, HoldsL, no-line, a-line, Lined, LinesMid, Filed, Treed, TreeRead, start, origin, widths, Headed, Placed, sizeRes}
+use Rattle.std.specs.Prelude.{Result, Ok, Err}
+use Rattle.params.specs.declared.refusal.Refusal.{Refusal}
+use Rattle.tree.specs.declared.Head.{Head}
+use Rattle.tree.specs.declared.Sizes.{Sizes}
+use Rattle.tree.specs.Files.{Ended, lineWord, HoldsL, no-line, a-line, Lined, LinesMid, Filed, Treed, TreeRead, start, origin, widths, Headed, Placed, sizeRes}
 use Rattle.bits.proofs.Bits.{field-in}
 use Rattle.bits.proofs.Gives.{then, stop, done, passes, fails, bits-in, unique, never, after}
 use Rattle.nodes.proofs.Table.{agree-refl, agree-part, agree-trans, moved-b, grows-b, set-below, set-here}
@@ -41,8 +43,8 @@ module _ {s : List ℕ} {c d : Cursor} {w v : ℕ} (l : byteBits * length s - c.
   pub fill-bits : (v ≡ 0 → ⊥) → Gives fill s (at c) (refused leftOver)
   fill-bits e = from-left w l (then _ (passes leftOver (lt-ltb w byteBits h)) (then _ t.reads (fails (ne_eqb v 0 e))))
 
-  pub fill-ok : v ≡ 0 → Ended s c 0 d
-  fill-ok e = record { reads = from-left w l (then _ (passes leftOver (lt-ltb w byteBits h)) (then _ t.reads (passes leftOver (eq-eqb v 0 e)))); valueless = refl; moved = t.moved; fine = t.fine }
+  pub fill-ok : v ≡ 0 → Ended s c d
+  fill-ok e = record { reads = from-left w l (then _ (passes leftOver (lt-ltb w byteBits h)) (then _ t.reads (passes leftOver (eq-eqb v 0 e)))); moved = t.moved; fine = t.fine }
 
 -- the bits that are left are there
 pub fill-there : {s : List ℕ} {c : Cursor} {w x : ℕ} → byteBits * length s - c.pos ≡ w → Fine s c → Gives (bits w) s (at c) (refused x) → ⊥
@@ -90,7 +92,7 @@ lines-start n total s t ls c f =
     }
 
 module _ {n total : ℕ} {s t ls : List ℕ} {c d : Cursor} {k : ℕ} (m : LinesMid n total s t ls c d k) where
-  pub lines-more : {t' : List ℕ} {v : ℕ} {e : Cursor} (ls' : List ℕ) → k < total → k < length ls → ls' ≡ set ls k (lineWord v d.nodes) → Built (listR n mostDepth) (HeldB s n) countB s t t' d d v e
+  pub lines-more : {t' : List ℕ} {v : ℕ} {e : Cursor} (ls' : List ℕ) → k < total → k < length ls → ls' ≡ set ls k (lineWord v d.nodes) → Built (listR n mostDepth) (HeldB s n v) countB s t t' d d e
       → LinesMid n total s t' ls' c e (k + 1)
   unfolding ofLines both lineWord widths
   lines-more {t' = t'} {v = v} {e = e} ls' h l w x =
@@ -116,13 +118,12 @@ module _ {n total : ℕ} {s t ls : List ℕ} {c d : Cursor} {k : ℕ} (m : Lines
   pub lines-stop : {x : ℕ} → k < total → Gives (listR n mostDepth) s (at d) (refused x) → Gives (many total (lineBlock n)) s (at c) (refused x)
   lines-stop {x} h g = m.stops x (many-stop (total - k) (omega arith) (line-from n g))
 
-  pub lines-done : total ≤ k → k ≤ total → Lined n total s t ls c 0 d
+  pub lines-done : total ≤ k → k ≤ total → Lined n total s t ls c d
   unfolding ofLines emptyTally widths
   lines-done h l =
       record {
         val = m.pre [];
         reads = m.goes [] (at d) (many-end (total - k) _ (omega arith));
-        valueless = refl;
         holds = m.holds t ls [] d.nodes agree-refl agree-refl (no-line (omega arith) refl);
         counts = m.counts [] d (omega arith);
         many-lines = m.many-lines [] ∙ omega arith;
@@ -148,6 +149,10 @@ pub parse-ok : (s : List ℕ) (x : Tree) (c : At) → length s ≤ mostBytes →
 unfolding parse
 parse-ok s x c h g = rw (le-leb (length s) mostBytes h, parse, g.is)
 
+-- a cursor whose counts are all zero
+pub from-origin : {p n m k l h : ℕ} → p ≡ 0 → n ≡ 0 → m ≡ 0 → k ≡ 0 → l ≡ 0 → h ≡ 0 → ◌≡◌ {A = Cursor} (record { pos = p; nodes = n; statements = m; sections = k; strings = l; chars = h }) origin
+from-origin a b d e f g = rw (a, b, d, e, f, g)
+
 pub head-1 : {s : List ℕ} {x : ℕ} → Gives (bits headBits) s start (refused x) → Gives file s start (refused x)
 unfolding file
 head-1 g = stop _ g
@@ -172,10 +177,7 @@ behind-head : (l n : ℕ) {s : List ℕ} {f : ℕ} {c1 c2 c3 : At} {res : Res (T
 unfolding file
 behind-head l n g h a b e r = then _ g (then _ (passes otherForm (eq-eqb _ form h)) (then _ a (then _ (passes zeroLines (lt-ltb 0 l (omega arith))) (then _ e r))))
 
-at-counts : {l l' n n' : ℕ} {s : List ℕ} {c : At} {res : Res (Tree × At)} → l ≡ l' → n ≡ n' → Gives (body l n) s c res → Gives (body l' n') s c res
-at-counts e f g = rw (← e, ← f) g
-
-pub headed : {s : List ℕ} {f l n : ℕ} {c1 c2 c3 : Cursor} → Took (bits headBits) s origin 0 0 (2 ^ headBits) f c1 → f ≡ form → Took (bits headBits) s c1 0 0 (2 ^ headBits) l c2 → (l ≡ 0 → ⊥) → Took (bits nameBits) s c2 0 0 (2 ^ nameBits) n c3 → Headed s (l + headValues * n) c3
+pub headed : {s : List ℕ} {f l n : ℕ} {c1 c2 c3 : Cursor} → Took (bits headBits) s origin 0 0 (2 ^ headBits) f c1 → f ≡ form → Took (bits headBits) s c1 0 0 (2 ^ headBits) l c2 → (l ≡ 0 → ⊥) → Took (bits nameBits) s c2 0 0 (2 ^ nameBits) n c3 → Headed s (record { lines = l; names = n }) c3
 headed {l = l} {n = n} a h b k d =
     let x = after headBits a.reads in
     let y = after headBits b.reads in
@@ -186,7 +188,8 @@ headed {l = l} {n = n} a h b k d =
     let p = b.small in
     let q = d.small in
     record {
-      goes = λ res g. behind-head l n a.reads h b.reads k d.reads (at-counts (omega arith) (omega arith) g);
+      goes = λ res g. behind-head l n a.reads h b.reads k d.reads g;
+      few-lines = p;
       few = omega arith;
       place = omega arith;
       nodes = omega arith;
@@ -205,7 +208,7 @@ placed s n p e h =
     let u = names-length s n p in
     record { are = rw (u, e) refl; inside = rw (u, ← e) h }
 
-pub filed : {s t ls : List ℕ} {v x y z : ℕ} {c3 c4 c5 c6 : Cursor} → Headed s v c3 → NamedAll (v / headValues) s c3 x c4 → Lined (v / headValues) (v % headValues) s t ls c4 y c5 → Ended s c5 z c6 → Filed s t ls v c6
+pub filed : {s t ls : List ℕ} {v : Head} {c3 c4 c5 c6 : Cursor} → Headed s v c3 → NamedAll v.names s c3 c4 → Lined v.names v.lines s t ls c4 c5 → Ended s c5 c6 → Filed s t ls v c6
 unfolding body
 filed {s = s} {v = v} {c3 = c3} {c4 = c4} {c5 = c5} {c6 = c6} h x y z =
     let p = x.moved in
@@ -213,15 +216,15 @@ filed {s = s} {v = v} {c3 = c3} {c4 = c4} {c5 = c5} {c6 = c6} h x y z =
     let r = z.moved in
     let f = x.fine in
     let g = z.fine in
-    let u = names-length s (v / headValues) c3.pos in
+    let u = names-length s v.names c3.pos in
     let l = y.many-lines in
     let i : c4.nodes ≡ 0 = omega arith in
     let j : c5.nodes ≡ c6.nodes = omega arith in
     record {
-      val = record { names = namesAt s (v / headValues) c3.pos; lines = y.val };
+      val = record { names = namesAt s v.names c3.pos; lines = y.val };
       reads = h.goes _ (then _ x.reads (then _ y.reads (then _ z.reads done)));
       holds = rw (u, l) (held-at i j y.holds);
-      names = placed s (v / headValues) c3.pos h.place (rw (← x.place) f.inside);
+      names = placed s v.names c3.pos h.place (rw (← x.place) f.inside);
       nodes = omega arith;
       within = omega arith;
       statements = omega arith;
@@ -229,19 +232,16 @@ filed {s = s} {v = v} {c3 = c3} {c4 = c4} {c5 = c5} {c6 = c6} h x y z =
       strings = omega arith;
       chars = omega arith;
       few = omega arith;
-      both = rw (u, l) (omega arith);
+      lines-are = sym l;
+      names-are = sym u;
     }
 
-pub treed : {s t ls : List ℕ} {v : ℕ} {c : Cursor} → Filed s t ls v c → length s ≤ mostBytes → Treed s t ls (record { lines = v % headValues; names = v / headValues; statements = c.statements; nodes = c.nodes; strings = c.strings; characters = c.chars })
+pub treed : {s t ls : List ℕ} {v : Head} {c : Cursor} → Filed s t ls v c → length s ≤ mostBytes → Treed s t ls (record { lines = v.lines; names = v.names; statements = c.statements; nodes = c.nodes; strings = c.strings; characters = c.chars })
 unfolding sizeOf
 treed {s = s} {v = v} {c = c} f h =
-    let k = f.both in
-    let m = f.few in
-    let a : v % headValues ≡ length f.val.lines = omega arith in
-    let b : v / headValues ≡ length f.val.names = omega arith in
-    record { val = f.val; parses = parse-ok s f.val (at c) h f.reads; holds = f.holds; names = f.names; size-is = rw (a, b, f.statements, f.nodes, f.strings, f.chars); within = f.within }
+    record { val = f.val; parses = parse-ok s f.val (at c) h f.reads; holds = f.holds; names = f.names; size-is = rw (f.lines-are, f.names-are, f.statements, f.nodes, f.strings, f.chars); within = f.within }
 
-pub size-from : {s t ls : List ℕ} {r : SizeAnswer} → TreeRead s t ls r → sizeRes r ≡ size s
+pub size-from : {s t ls : List ℕ} {r : Result Sizes Refusal} → TreeRead s t ls r → sizeRes r ≡ size s
 unfolding size
-size-from {s = s} {r = Sized z} h = rw (h.here.parses, size) (ap ok h.here.size-is)
-size-from {s = s} {r = No k} h = rw (h.here, size)
+size-from {s = s} {r = Ok z} h = rw (h.here.parses, size) (ap ok h.here.size-is)
+size-from {s = s} {r = Err k} h = rw (h.here, size)

@@ -1,5 +1,5 @@
 -- What the steps that read lines and the whole file give: they refuse as the readers of rules do, or the tables hold what those read.
-use Rattle.std.specs.Prelude.{◌≡◌, List, [], ◌∷◌, ℕ, ◌+◌, ◌-◌, ◌*◌, ◌/◌, ◌%◌, ◌^◌, ◌≤◌, ◌<◌, length, get_or}
+use Rattle.std.specs.Prelude.{Result, Ok, Err, ◌≡◌, List, [], ◌∷◌, ℕ, ◌+◌, ◌-◌, ◌*◌, ◌/◌, ◌%◌, ◌^◌, ◌≤◌, ◌<◌, length, get_or}
 use Rattle.rules.specs.Constants.{byteBits, headBits, listBits, mostLines, mostNames}
 use Rattle.rules.specs.Bits.{Res, refused, ok}
 use Rattle.rules.specs.Tree.{Name, Block, Tree, ofLines}
@@ -8,15 +8,14 @@ use Rattle.rules.specs.Operations.{sizeOf}
 use Rattle.rules.specs.Operations as O
 use Rattle.bits.specs.Reads.{Gives, Fine, Moved, at}
 use Rattle.bits.specs.declared.Cursor.{Cursor}
-use Rattle.bits.specs.declared.Step.{Step}
-use Rattle.bits.specs.declared.Step.TheVariants.{Next, Refused}
+use Rattle.params.specs.Told.{numberOf, told}
+use Rattle.params.specs.declared.refusal.Refusal.{Refusal}
 use Rattle.names.specs.Names.{firstName, namesAt, endAt}
 use Rattle.nodes.specs.Builds.{Agree, Counted, mostNodesOf}
 use Rattle.nodes.specs.Width.{width}
 use Rattle.nodes.specs.Holds.{HoldsB}
 use Rattle.tree.specs.declared.Sizes.{Sizes}
-use Rattle.tree.specs.declared.SizeAnswer.{SizeAnswer}
-use Rattle.tree.specs.declared.SizeAnswer.TheVariants.{Sized, Refused as No}
+use Rattle.tree.specs.declared.Head.{Head}
 
 -- a line's word: its count of statements, its first node
 unfoldable pub lineWord : ℕ → ℕ → ℕ
@@ -38,21 +37,20 @@ unfoldable pub widths : List Block → ℕ
 widths [] = 0
 widths (b ∷ bs) = width b + widths bs
 
--- all lines are read: the step has no value
-pub record Lined (n total : ℕ) (s t ls : List ℕ) (c : Cursor) (v : ℕ) (c' : Cursor) : Type 0 where
+-- all lines are read
+pub record Lined (n total : ℕ) (s t ls : List ℕ) (c c' : Cursor) : Type 0 where
   pub val : List Block
   pub reads : Gives (many total (lineBlock n)) s (at c) (ok (val, at c'))
-  pub valueless : v ≡ 0
   pub holds : HoldsL t ls s n 0 c.nodes val total c'.nodes
   pub counts : Counted (ofLines val) (widths val) c c'
   pub many-lines : length val ≡ total
   pub fine : Fine s c'
 
-abbrev pub LinesAt : ℕ → ℕ → List ℕ → List ℕ → List ℕ → Cursor → Step → Type 0
-LinesAt n total s t ls c (Next v c') = Lined n total s t ls c v c'
-LinesAt n total s t ls c (Refused k) = Gives (many total (lineBlock n)) s (at c) (refused k)
+abbrev pub LinesAt : ℕ → ℕ → List ℕ → List ℕ → List ℕ → Cursor → Result Cursor Refusal → Type 0
+LinesAt n total s t ls c (Ok c') = Lined n total s t ls c c'
+LinesAt n total s t ls c (Err k) = Gives (many total (lineBlock n)) s (at c) (refused (numberOf k))
 
-pub record LinesRead (n total : ℕ) (s t ls : List ℕ) (c : Cursor) (st : Step) : Type 0 where
+pub record LinesRead (n total : ℕ) (s t ls : List ℕ) (c : Cursor) (st : Result Cursor Refusal) : Type 0 where
   pub here : LinesAt n total s t ls c st
 
 -- midway: k lines are read, and c' stands behind them
@@ -66,18 +64,17 @@ pub record LinesMid (n total : ℕ) (s t ls : List ℕ) (c c' : Cursor) (k : ℕ
   pub after : c.nodes ≤ c'.nodes
   pub fine : Fine s c'
 
--- the fill is read: the step has no value
-pub record Ended (s : List ℕ) (c : Cursor) (v : ℕ) (c' : Cursor) : Type 0 where
+-- the fill is read
+pub record Ended (s : List ℕ) (c c' : Cursor) : Type 0 where
   pub reads : Gives fill s (at c) (ok (tt, at c'))
-  pub valueless : v ≡ 0
   pub moved : Moved 0 0 c c'
   pub fine : Fine s c'
 
-abbrev pub EndReadAt : List ℕ → Cursor → Step → Type 0
-EndReadAt s c (Next v c') = Ended s c v c'
-EndReadAt s c (Refused k) = Gives fill s (at c) (refused k)
+abbrev pub EndReadAt : List ℕ → Cursor → Result Cursor Refusal → Type 0
+EndReadAt s c (Ok c') = Ended s c c'
+EndReadAt s c (Err k) = Gives fill s (at c) (refused (numberOf k))
 
-pub record EndRead (s : List ℕ) (c : Cursor) (st : Step) : Type 0 where
+pub record EndRead (s : List ℕ) (c : Cursor) (st : Result Cursor Refusal) : Type 0 where
   pub here : EndReadAt s c st
 
 -- before the first bit
@@ -91,14 +88,11 @@ start = at origin
 abbrev pub HoldsTree : List ℕ → List ℕ → List ℕ → Tree → ℕ → Type 0
 HoldsTree s t ls x j = HoldsL t ls s (length x.names) 0 0 x.lines (length x.lines) j
 
--- lines are counted below this; names stand above them in one number
-abbrev pub headValues : ℕ
-headValues = 2 ^ headBits
-
--- the head is read: v is its lines and names, and what stands behind it is the body of the file
-pub record Headed (s : List ℕ) (v : ℕ) (c : Cursor) : Type 0 where
-  pub goes : (res : Res (Tree × At)) → Gives (body (v % headValues) (v / headValues)) s (at c) res → Gives file s start res
-  pub few : v / headValues ≤ mostNames
+-- the head is read, and what stands behind it is the body of the file
+pub record Headed (s : List ℕ) (h : Head) (c : Cursor) : Type 0 where
+  pub goes : (res : Res (Tree × At)) → Gives (body h.lines h.names) s (at c) res → Gives file s start res
+  pub few-lines : h.lines < 2 ^ headBits
+  pub few : h.names ≤ mostNames
   pub place : c.pos ≡ firstName
   pub nodes : c.nodes ≡ 0
   pub statements : c.statements ≡ 0
@@ -107,11 +101,11 @@ pub record Headed (s : List ℕ) (v : ℕ) (c : Cursor) : Type 0 where
   pub chars : c.chars ≡ 0
   pub fine : Fine s c
 
-abbrev pub HeadAt : List ℕ → Step → Type 0
-HeadAt s (Next v c) = Headed s v c
-HeadAt s (Refused k) = Gives file s start (refused k)
+abbrev pub HeadAt : List ℕ → Result (Head × Cursor) Refusal → Type 0
+HeadAt s (Ok p) = Headed s p.0 p.1
+HeadAt s (Err k) = Gives file s start (refused (numberOf k))
 
-pub record HeadRead (s : List ℕ) (st : Step) : Type 0 where
+pub record HeadRead (s : List ℕ) (st : Result (Head × Cursor) Refusal) : Type 0 where
   pub here : HeadAt s st
 
 -- the names of the tree stand in the file, from behind the head
@@ -119,8 +113,8 @@ pub record Placed (s : List ℕ) (x : List Name) : Type 0 where
   pub are : x ≡ namesAt s (length x) firstName
   pub inside : endAt s (length x) firstName ≤ byteBits * length s
 
--- the whole file is read; v is its lines and names
-pub record Filed (s t ls : List ℕ) (v : ℕ) (c : Cursor) : Type 0 where
+-- the whole file is read, whose head is h
+pub record Filed (s t ls : List ℕ) (h : Head) (c : Cursor) : Type 0 where
   pub val : Tree
   pub reads : Gives file s start (ok (val, at c))
   pub holds : HoldsTree s t ls val c.nodes
@@ -132,22 +126,22 @@ pub record Filed (s t ls : List ℕ) (v : ℕ) (c : Cursor) : Type 0 where
   pub chars : c.chars ≡ (ofLines val.lines).characters
   pub few : length val.lines ≤ mostLines
   pub within : c.nodes ≤ mostNodesOf (length s)
-  pub both : v ≡ length val.lines + headValues * length val.names
+  pub lines-are : h.lines ≡ length val.lines
+  pub names-are : h.names ≡ length val.names
 
-abbrev pub FileAt : List ℕ → List ℕ → List ℕ → Step → Type 0
-FileAt s t ls (Next v c) = Filed s t ls v c
-FileAt s t ls (Refused k) = Gives file s start (refused k)
+abbrev pub FileAt : List ℕ → List ℕ → List ℕ → Result (Head × Cursor) Refusal → Type 0
+FileAt s t ls (Ok p) = Filed s t ls p.0 p.1
+FileAt s t ls (Err k) = Gives file s start (refused (numberOf k))
 
-pub record FileRead (s t ls : List ℕ) (st : Step) : Type 0 where
+pub record FileRead (s t ls : List ℕ) (st : Result (Head × Cursor) Refusal) : Type 0 where
   pub here : FileAt s t ls st
 
 -- the answer as rules has it
 abbrev pub sized : Sizes → O.Size
 sized z = record { lines = z.lines; names = z.names; statements = z.statements; nodes = z.nodes; strings = z.strings; characters = z.characters }
 
-abbrev pub sizeRes : SizeAnswer → Res O.Size
-sizeRes (Sized z) = ok (sized z)
-sizeRes (No k) = refused k
+abbrev pub sizeRes : Result Sizes Refusal → Res O.Size
+sizeRes r = told sized r
 
 -- the contract of read_tree: the tables hold the tree that parse gives, and the answer is its size; or parse refuses by that number
 pub record Treed (s t ls : List ℕ) (z : Sizes) : Type 0 where
@@ -158,9 +152,9 @@ pub record Treed (s t ls : List ℕ) (z : Sizes) : Type 0 where
   pub size-is : sized z ≡ sizeOf val
   pub within : z.nodes ≤ mostNodesOf (length s)
 
-abbrev pub TreeAt : List ℕ → List ℕ → List ℕ → SizeAnswer → Type 0
-TreeAt s t ls (Sized z) = Treed s t ls z
-TreeAt s t ls (No k) = parse s ≡ refused k
+abbrev pub TreeAt : List ℕ → List ℕ → List ℕ → Result Sizes Refusal → Type 0
+TreeAt s t ls (Ok z) = Treed s t ls z
+TreeAt s t ls (Err k) = parse s ≡ refused (numberOf k)
 
-pub record TreeRead (s t ls : List ℕ) (r : SizeAnswer) : Type 0 where
+pub record TreeRead (s t ls : List ℕ) (r : Result Sizes Refusal) : Type 0 where
   pub here : TreeAt s t ls r

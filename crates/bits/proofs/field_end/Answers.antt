@@ -7,8 +7,5 @@ use Rattle.bits.proofs.field_end.Goals as goal
 pub returns-then-at-bits : goal.returns-then-at-bits
 returns-then-at-bits c = sym (end-out _ _ _ (omega arith))
 
-pub returns-then-w-bits : goal.returns-then-w-bits
-returns-then-w-bits c = sym (end-out _ _ _ (omega arith))
-
 pub returns : goal.returns
 returns c = sym (end-in _ _ _ (omega arith))

@@ -1,16 +1,24 @@
 -- A flag, a length and characters are a name, and the first refusal counts.
 use Rattle.rules.specs.Parse.{name}
-use Rattle.bits.proofs.Gives.{then, stop}
+use Rattle.bits.proofs.Gives.{passed, then, stop}
 use Rattle.names.proofs.Laws.{one-built}
 use Rattle.names.proofs.one.Goals as goal
 
-pub returns-in_default : goal.returns-in_default
+pub returns-in_err-d : goal.returns-in_err-d
 unfolding name
-returns-in_default c = rw c.in_default.is (record { here = stop _ c.in_default.ensures.here })
+returns-in_err-d c =
+    let k = c.in_err-d.ensures in
+    rw (passed c.from_residual.ensures.1) (record { here = stop _ k.here })
 
-pub returns-in_default-r1 : goal.returns-in_default-r1
+pub returns-in_err-l : goal.returns-in_err-l
 unfolding name
-returns-in_default-r1 c = rw c.in_default-r1.is (record { here = then _ c.in-Next.ensures.here.reads (stop _ c.in_default-r1.ensures.here) })
+returns-in_err-l c =
+    let j = c.in_ok-d.ensures in
+    let k = c.in_err-l.ensures in
+    rw (passed c.from_residual-in_err-l.ensures.1) (record { here = then _ j.here.reads (stop _ k.here) })
 
 pub returns : goal.returns
-returns c = one-built c.in-Next.ensures.here c.in-Next-r1.ensures.here _ c.skip.ensures
+returns c =
+    let j = c.in_ok-d.ensures in
+    let k = c.in_ok-l.ensures in
+    one-built j.here k.here _ c.skip.ensures

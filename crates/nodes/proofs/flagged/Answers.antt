@@ -2,23 +2,26 @@
 use Rattle.std.proofs.Common.{arith}
 use Rattle.rules.specs.Tree.{node, emptyTally}
 use Rattle.nodes.specs.Builds.{flagR}
-use Rattle.bits.proofs.Gives.{then, stop, done, named}
+use Rattle.bits.proofs.Gives.{passed, then, stop, done, named}
 use Rattle.nodes.proofs.Table.{agree-refl}
 use Rattle.nodes.proofs.Built.{sealed, refuses}
 use Rattle.nodes.proofs.flagged.Goals as goal
 
-pub returns-in_default : goal.returns-in_default
+pub returns-in_err-b : goal.returns-in_err-b
 unfolding flagR
-returns-in_default c = refuses c.in_default.is (stop _ c.in_default.ensures.here)
+returns-in_err-b c = let k = c.in_err-b.ensures in refuses (passed c.from_residual.ensures.1) (stop _ k.here)
 
-pub returns-in_default-r1 : goal.returns-in_default-r1
+pub returns-in_err-x : goal.returns-in_err-x
 unfolding flagR
-returns-in_default-r1 c = refuses c.in_default-r1.is (then _ c.in-Next.ensures.here.reads (stop _ (named _ c.in_default-r1.ensures.here)))
+returns-in_err-x c =
+    let b = c.in_ok-b.ensures in
+    let k = c.in_err-x.ensures in
+    refuses (passed c.from_residual-in_err-x.ensures.1) (then _ b.here.reads (stop _ (named _ k.here)))
 
 pub returns : goal.returns
 unfolding flagR node emptyTally
 returns c =
-    let b = c.in-Next.ensures.here in
-    let x = c.in-Next-r1.ensures.here in
-    sealed _ _ _ c.close.ensures (omega arith) (then _ b.reads (then _ (named _ x.reads) done)) agree-refl
-    (λ w a. record { last = omega arith; is = w; flag = b.small; known = x.small }) (omega arith) x.fine
+    let b = c.in_ok-b.ensures in
+    let x = c.in_ok-x.ensures in
+    sealed _ _ _ c.close.ensures (omega arith) (then _ b.here.reads (then _ (named _ x.here.reads) done)) agree-refl
+    (λ w a. record { last = omega arith; is = w; flag = b.here.small; known = x.here.small }) (omega arith) x.here.fine

@@ -3,18 +3,18 @@ use Rattle.std.proofs.Common.{arith}
 use Rattle.rules.specs.Tree.{node, emptyTally, ofExpr}
 use Rattle.rules.specs.Parse.{identOf}
 use Rattle.nodes.specs.Holds.{at-ident}
-use Rattle.bits.proofs.Gives.{then, stop, done, named}
+use Rattle.bits.proofs.Gives.{passed, then, stop, done, named}
 use Rattle.nodes.proofs.Table.{agree-refl}
 use Rattle.nodes.proofs.Built.{sealed, refuses}
 use Rattle.nodes.proofs.ident.Goals as goal
 
-pub returns-in_default : goal.returns-in_default
+pub returns-in_err-x : goal.returns-in_err-x
 unfolding identOf
-returns-in_default c = refuses c.in_default.is (stop _ (named _ c.in_default.ensures.here))
+returns-in_err-x c = let k = c.in_err-x.ensures in refuses (passed c.from_residual.ensures.1) (stop _ (named _ k.here))
 
 pub returns : goal.returns
 unfolding identOf ofExpr node emptyTally
 returns c =
-    let x = c.in-Next.ensures.here in
-    sealed _ _ _ c.close.ensures (omega arith) (then _ (named _ x.reads) done) agree-refl
-    (λ w a. at-ident _ (omega arith) w x.small) (omega arith) x.fine
+    let x = c.in_ok-x.ensures in
+    sealed _ _ _ c.close.ensures (omega arith) (then _ (named _ x.here.reads) done) agree-refl
+    (λ w a. at-ident _ (omega arith) w x.here.small) (omega arith) x.here.fine

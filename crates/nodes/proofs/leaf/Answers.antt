@@ -1,24 +1,23 @@
 -- The kind says which reader `leafR` is.
-use Rattle.std.proofs.Common.{arith}
 use Rattle.nodes.specs.Builds.{leafR}
-use Rattle.nodes.proofs.Built.{incdec-leaf, no-leaf}
+use Rattle.nodes.proofs.Built.{incdec-leaf, leaf-other}
 use Rattle.nodes.proofs.leaf.Goals as goal
 
-pub returns-in-2 : goal.returns-in-2
+pub returns-in-Incdec : goal.returns-in-Incdec
 unfolding leafR
-returns-in-2 c = rw c.in-2.is (incdec-leaf _ _ c.flagged.ensures)
+returns-in-Incdec c = rw c.in-Incdec.is (incdec-leaf _ _ c.flagged.ensures)
 
-pub returns-in-3 : goal.returns-in-3
+pub returns-in-Ident : goal.returns-in-Ident
 unfolding leafR
-returns-in-3 c = rw c.in-3.is c.ident.ensures
+returns-in-Ident c = rw c.in-Ident.is c.ident.ensures
 
-pub returns-in-4 : goal.returns-in-4
+pub returns-in-Number : goal.returns-in-Number
 unfolding leafR
-returns-in-4 c = rw c.in-4.is c.number.ensures
+returns-in-Number c = rw c.in-Number.is c.number.ensures
 
-pub returns-in-5 : goal.returns-in-5
+pub returns-in-String : goal.returns-in-String
 unfolding leafR
-returns-in-5 c = rw c.in-5.is c.string.ensures
+returns-in-String c = rw c.in-String.is c.string.ensures
 
 pub returns-in_default : goal.returns-in_default
-returns-in_default c = record { here = no-leaf _ _ (λ e. omega arith) (λ e. omega arith) (λ e. omega arith) (λ e. omega arith) }
+returns-in_default c = record { here = leaf-other _ _ c.in_default.not-Incdec c.in_default.not-Ident c.in_default.not-Number c.in_default.not-String }

@@ -3,24 +3,27 @@ use Rattle.std.proofs.Common.{arith, refl}
 use Rattle.rules.specs.Tree.{node, emptyTally, ofExpr}
 use Rattle.rules.specs.Parse.{stringOf}
 use Rattle.nodes.specs.Holds.{at-string}
-use Rattle.bits.proofs.Gives.{then, stop, done}
+use Rattle.bits.proofs.Gives.{passed, then, stop, done}
 use Rattle.nodes.proofs.Table.{agree-refl}
 use Rattle.nodes.proofs.Built.{chars-length, sealed, refuses}
 use Rattle.nodes.proofs.string.Goals as goal
 
-pub returns-in_default : goal.returns-in_default
+pub returns-in_err-l : goal.returns-in_err-l
 unfolding stringOf
-returns-in_default c = refuses c.in_default.is (stop _ c.in_default.ensures.here)
+returns-in_err-l c = let k = c.in_err-l.ensures in refuses (passed c.from_residual.ensures.1) (stop _ k.here)
 
-pub returns-in_default-r1 : goal.returns-in_default-r1
+pub returns-in_err-e : goal.returns-in_err-e
 unfolding stringOf
-returns-in_default-r1 c = refuses c.in_default-r1.is (then _ c.in-Next.ensures.here.reads (stop _ c.in_default-r1.ensures.here))
+returns-in_err-e c =
+    let b = c.in_ok-l.ensures in
+    let k = c.in_err-e.ensures in
+    refuses (passed c.from_residual-in_err-e.ensures.1) (then _ b.here.reads (stop _ k.here))
 
 pub returns : goal.returns
 unfolding stringOf ofExpr node emptyTally
 returns c =
-    let b = c.in-Next.ensures.here in
-    let x = c.in-Next-r1.ensures.here in
-    let n = chars-length c.args.s.now c.in-Next.l c.in-Next.d.pos in
-    sealed _ _ _ c.close.ensures (omega arith) (then _ b.reads (then _ x.reads done)) agree-refl
-    (λ w a. at-string _ _ _ (omega arith) w b.small (omega arith) refl) (omega arith) (omega arith)
+    let b = c.in_ok-l.ensures in
+    let x = c.in_ok-e.ensures in
+    let n = chars-length c.args.s.now c.in_ok-l.l c.in_ok-l.d.pos in
+    sealed _ _ _ c.close.ensures (omega arith) (then _ b.here.reads (then _ x.here.reads done)) agree-refl
+    (λ w a. at-string _ _ _ (omega arith) w b.here.small (omega arith) refl) (omega arith) (omega arith)
