@@ -61,12 +61,12 @@ module _ (t : Tables) (u : Counts) where
         lines-are u.lines (take u.sections t.sections) (take u.instrs t.instrs)
         ∙ ap (allb fixedWord) (take-take u.lines u.sections t.sections (counts_kept t u h).lines)
 
-    jumps-known : allb (jumpsFixed (machineOf t u).sections) (machineOf t u).sections ≡ allb (jumpIn t.sections u.sections) (take u.instrs t.instrs)
+    jumps-known : allb (jumpsFixed (machineOf t u).sections) (machineOf t u).sections ≡ allb (jumpIn (take u.sections t.sections)) (take u.instrs t.instrs)
     unfolding held
     jumps-known =
         let k = counts_kept t u h in
         jumps-are (machineOf t u).sections (take u.sections t.sections) (take u.instrs t.instrs) (covered ∙ sym (length-take-le u.instrs t.instrs k.instrs))
-        ∙ all-jumps t.sections (take u.instrs t.instrs) u.sections k.sections (take u.instrs t.instrs)
+        ∙ all-jumps (take u.sections t.sections) (take u.instrs t.instrs) (take u.instrs t.instrs)
 
     clean-13 : cleanIn t (machineOf t u) ≡ refused Refusal.needsUnfixed → (refused Refusal.needsUnfixed, t) ≡ clean t u
     unfolding clean
@@ -81,11 +81,11 @@ module _ (t : Tables) (u : Counts) where
     clean-lines a = clean-13 (rw (lines-known, a, cleanIn))
 
     module _ (a : allb fixedWord (take u.lines t.sections) ≡ true) where
-      pub clean-jumps : allb (jumpIn t.sections u.sections) (take u.instrs t.instrs) ≡ false → (refused Refusal.needsUnfixed, t) ≡ clean t u
+      pub clean-jumps : allb (jumpIn (take u.sections t.sections)) (take u.instrs t.instrs) ≡ false → (refused Refusal.needsUnfixed, t) ≡ clean t u
       unfolding cleanIn
       clean-jumps b = clean-13 (rw (lines-known, a, jumps-known, b, cleanIn))
 
-      module _ (b : allb (jumpIn t.sections u.sections) (take u.instrs t.instrs) ≡ true) where
+      module _ (b : allb (jumpIn (take u.sections t.sections)) (take u.instrs t.instrs) ≡ true) where
         done : (ok (countsOf (cleaned (machineOf t u))), write u (cleaned (machineOf t u)) t) ≡ clean t u
         unfolding cleanIn
         done = clean-ok (cleaned (machineOf t u)) (rw (lines-known, a, jumps-known, b, cleanIn))

@@ -1,14 +1,13 @@
 -- The numbers that clean gives are those of `rank`; what it refuses, told of words. Assumes nothing.
 use mathlib.Core.Path.{◌≡◌, refl, sym, ap, ◌∙◌}
 use mathlib.Core.Bool.{Bool, true, false, cond}
-use mathlib.Core.List.{List, [], ◌∷◌, ◌++◌, map}
+use mathlib.Core.List.{List, [], ◌∷◌, ◌++◌, map, append-nil}
 use Prim.Native.Nat.{ℕ, zero, suc, pred, ◌+◌, ◌<◌, ◌≤◌}
 use native.Mathlib.Omega.{arith}
-use native.Mathlib.Numerals.{add-one}
 use native.Mathlib.Nat.{zero-add}
 use lib.Dec.{ltb}
-use lib.ListN.{length, take, drop, get_or, set, length-map, length-drop, length-take, get_or-append, take-append-drop}
-use lib.Seq.{slice, slice-cons, slice_empty, length-take-le, take_all, get_or-take, append_snoc}
+use lib.ListN.{length, take, drop, get_or, set, length-map, length-drop, length-take, take-append-drop}
+use lib.Seq.{drop-set-lt, take_all}
 use borrow.Author.Tests.{ltb-true, ltb-false}
 use Rattle.rules.specs.Instr.{isJump}
 use Rattle.rules.specs.Constants.{mark, mostCount}
@@ -17,36 +16,34 @@ use Rattle.rules.specs.Machine.{SectionCode, isFixed, absent}
 use Rattle.rules.specs.Tables.{successOf, readSections, allb}
 use Rattle.rules.specs.Clean.{keep, rank}
 use Rattle.rules.specs.Operations.{fixedHere, jumpFixed, jumpsFixed}
-use Rattle.std.proofs.lemmas.List.{map-append, nil_from_length}
+use Rattle.std.proofs.Math.ListN.{drop_of_length-le}
+use Rattle.std.proofs.lemmas.List.{nil_from_length, drop_more}
 use Rattle.laws.specs.Sections.{keep-length}
 use Rattle.tables.specs.Runs.{fixedWord, countOf, total, sectionOf}
 use Rattle.tables.proofs.Read.{read-nil, read-cons, read-length, all-nil, all-cons, fixed-is}
-use Rattle.tables.proofs.InPlace.{set-taken, set-left, set-rest}
+use Rattle.tables.proofs.InPlace.{store-more}
 use Rattle.clean.specs.Pass.{firstOf, withFirst, bump, bumps, numbered, newNumber, jumpIn}
 use Rattle.clean.proofs.Fields.{first-is}
 
 -- ---- the loop that numbers
 
-module _ (s : List ℕ) (i n k : ℕ) where
-  pub number-done : n ≤ i → i ≤ n → take i s ++ (numbered k (slice i n s) ++ drop n s) ≡ s
+module _ (s : List ℕ) (i k : ℕ) where
+  pub number-done : length s ≤ i → take i s ++ numbered k (drop i s) ≡ s
   unfolding numbered
-  number-done a b = let e : i ≡ n = omega arith in rw (e, slice_empty) (take-append-drop n s)
+  number-done h = rw (take_all i s h, drop_of_length-le s h, append-nil)
 
-  pub bumps-done : n ≤ i → i ≤ n → k ≡ bumps k (slice i n s)
+  pub bumps-done : length s ≤ i → k ≡ bumps k (drop i s)
   unfolding bumps
-  bumps-done a b = let e : i ≡ n = omega arith in rw (e, slice_empty)
+  bumps-done h = rw (drop_of_length-le s h)
 
-  module _ (h : i < n) (l : n ≤ length s) (m v : ℕ) (m-is : m ≡ bump k (get_or s i 0)) (v-is : v ≡ withFirst m (get_or s i 0)) where
-    pub number-more : take (i + 1) (set s i v) ++ (numbered m (slice (i + 1) n (set s i v)) ++ drop n (set s i v)) ≡ take i s ++ (numbered k (slice i n s) ++ drop n s)
+  module _ (h : i < length s) (m v : ℕ) (m-is : m ≡ bump k (get_or s i 0)) (v-is : v ≡ withFirst m (get_or s i 0)) where
+    pub number-more : take (i + 1) (set s i v) ++ numbered m (drop (i + 1) (set s i v)) ≡ take i s ++ numbered k (drop i s)
     unfolding numbered
-    number-more =
-        let z : i < i + 1 = omega arith in
-        rw (set-taken s i n v h l, set-left s i n v h l (i + 1) z, set-rest s i n v h l, slice-cons i n s 0 h l, add-one, v-is, m-is)
-        (append_snoc (take i s) (withFirst (bump k (get_or s i 0)) (get_or s i 0)) (numbered (bump k (get_or s i 0)) (slice (suc i) n s) ++ drop n s))
+    number-more = store-more s i v h (numbered k) (numbered m) (rw (drop_more s i 0 h, v-is, m-is))
 
-    pub bumps-more : bumps m (slice (i + 1) n (set s i v)) ≡ bumps k (slice i n s)
+    pub bumps-more : bumps m (drop (i + 1) (set s i v)) ≡ bumps k (drop i s)
     unfolding bumps
-    bumps-more = let z : i < i + 1 = omega arith in rw (set-left s i n v h l (i + 1) z, slice-cons i n s 0 h l, add-one, m-is)
+    bumps-more = let z : i < i + 1 = omega arith in rw (drop-set-lt (i + 1) s i v z, drop_more s i 0 h, m-is)
 
 -- ---- new numbers
 
@@ -83,19 +80,18 @@ unfolding numbered
 numbered-length [] j = refl
 numbered-length (w ∷ ws) j = ap suc (numbered-length ws (bump j w))
 
-ranks-by : (ws is rest : List ℕ) → length ws ≤ mostCount → (t : ℕ) (b : Bool) → ltb t (length ws) ≡ b → newNumber (map firstOf (numbered 0 ws ++ rest)) (length ws) (bumps 0 ws) t ≡ rank (readSections ws is) t
+ranks-by : (ws is : List ℕ) → length ws ≤ mostCount → (t : ℕ) (b : Bool) → ltb t (length ws) ≡ b → newNumber (map firstOf (numbered 0 ws)) (bumps 0 ws) t ≡ rank (readSections ws is) t
 unfolding newNumber
-ranks-by ws is rest h t true e =
+ranks-by ws is h t true e =
     let l : t < length ws = ltb-true _ _ e in
     let z : 0 + length ws ≤ mostCount = omega arith in
-    let q : t < length (map firstOf (numbered 0 ws)) = simp (length-map, numbered-length) l in
-    rw (e, map-append, get_or-append (map firstOf (numbered 0 ws)) (map firstOf rest) 0 t q, number-at ws is 0 t z l, zero-add)
-ranks-by ws is rest h t false e =
+    rw (length-map (numbered 0 ws) firstOf, numbered-length ws 0, e, number-at ws is 0 t z l, zero-add)
+ranks-by ws is h t false e =
     let l : length ws ≤ t = ltb-false _ _ e in
-    rw (e, bumps-is ws is 0, take_all (suc t) (readSections ws is) (rw read-length (omega arith)), zero-add)
+    rw (length-map (numbered 0 ws) firstOf, numbered-length ws 0, e, bumps-is ws is 0, take_all (suc t) (readSections ws is) (rw read-length (omega arith)), zero-add)
 
-pub ranks : (ws is rest : List ℕ) → length ws ≤ mostCount → (t : ℕ) → newNumber (map firstOf (numbered 0 ws ++ rest)) (length ws) (bumps 0 ws) t ≡ rank (readSections ws is) t
-ranks ws is rest h t = ranks-by ws is rest h t _ refl
+pub ranks : (ws is : List ℕ) → length ws ≤ mostCount → (t : ℕ) → newNumber (map firstOf (numbered 0 ws)) (bumps 0 ws) t ≡ rank (readSections ws is) t
+ranks ws is h t = ranks-by ws is h t _ refl
 
 pub rank-small : (ss : List SectionCode) → length ss ≤ mostCount → (t : ℕ) → rank ss t < mark
 rank-small ss h t = less (length (keep (take (suc t) ss))) (let k = keep-length (take (suc t) ss) in let m = length-take (suc t) ss in omega arith)
@@ -153,22 +149,16 @@ fixed-past [] is t h = rw read-nil
 fixed-past (w ∷ ws) is zero h = absurd (omega arith)
 fixed-past (w ∷ ws) is (suc t) h = rw read-cons (fixed-past ws (drop (countOf w) is) t (omega arith))
 
-module _ (ss is : List ℕ) (n : ℕ) (h : n ≤ length ss) where
-  fixed-by : (t : ℕ) (b : Bool) → ltb t n ≡ b → isFixed (get_or (readSections (take n ss) is) t absent).success ≡ cond b (fixedWord (get_or ss t 0)) false
-  fixed-by t true e =
-      let l : t < n = ltb-true _ _ e in
-      let k : t < length (take n ss) = rw (length-take-le n ss h) l in
-      fixed-there (take n ss) is t k ∙ ap fixedWord (get_or-take n ss t 0 l)
-  fixed-by t false e =
-      let l : n ≤ t = ltb-false _ _ e in
-      let k : length (take n ss) ≤ t = rw (length-take-le n ss h) l in
-      fixed-past (take n ss) is t k
+module _ (ss is : List ℕ) where
+  fixed-by : (t : ℕ) (b : Bool) → ltb t (length ss) ≡ b → isFixed (get_or (readSections ss is) t absent).success ≡ cond b (fixedWord (get_or ss t 0)) false
+  fixed-by t true e = fixed-there ss is t (ltb-true _ _ e)
+  fixed-by t false e = fixed-past ss is t (ltb-false _ _ e)
 
-  jump-by : (w : ℕ) (b : Bool) → isJump (wordIns w) ≡ b → jumpFixed (readSections (take n ss) is) (wordIns w) ≡ jumpIn ss n w
+  jump-by : (w : ℕ) (b : Bool) → isJump (wordIns w) ≡ b → jumpFixed (readSections ss is) (wordIns w) ≡ jumpIn ss w
   unfolding jumpFixed jumpIn
   jump-by w true e = rw (e, jumpFixed) (fixed-by (wordIns w).fst _ refl)
   jump-by w false e = rw (e, jumpFixed)
 
-  pub all-jumps : (xs : List ℕ) → allb (λ (w : ℕ). jumpFixed (readSections (take n ss) is) (wordIns w)) xs ≡ allb (jumpIn ss n) xs
+  pub all-jumps : (xs : List ℕ) → allb (λ (w : ℕ). jumpFixed (readSections ss is) (wordIns w)) xs ≡ allb (jumpIn ss) xs
   all-jumps [] = rw (all-nil, all-nil)
-  all-jumps (x ∷ xs) = rw (all-cons (λ (w : ℕ). jumpFixed (readSections (take n ss) is) (wordIns w)) x xs (jumpIn ss n x) (jump-by x _ refl), all-cons (jumpIn ss n) x xs (jumpIn ss n x) refl, all-jumps xs)
+  all-jumps (x ∷ xs) = rw (all-cons (λ (w : ℕ). jumpFixed (readSections ss is) (wordIns w)) x xs (jumpIn ss x) (jump-by x _ refl), all-cons (jumpIn ss) x xs (jumpIn ss x) refl, all-jumps xs)

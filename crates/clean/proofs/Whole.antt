@@ -1,68 +1,61 @@
 -- The parts of clean put together. Assumes nothing.
 use mathlib.Core.Path.{◌≡◌, refl, sym, ap, ◌∙◌, fun_ext}
-use mathlib.Core.List.{List, [], ◌∷◌, ◌++◌, map}
-use Prim.Native.Nat.{ℕ, ◌+◌, ◌-◌, ◌<◌, ◌≤◌}
+use mathlib.Core.List.{List, [], ◌∷◌, ◌++◌, map, append_assoc, append-nil}
+use Prim.Native.Nat.{ℕ, ◌+◌, ◌-◌, ◌<◌, ◌≤◌, max}
 use native.Mathlib.Omega.{arith}
-use lib.ListN.{length, take, drop, replicate, length-map}
-use lib.Seq.{length-take-le, take_at, drop_at}
+use lib.ListN.{length, take, drop, replicate, length-map, length-drop}
+use native.Mathlib.Nat.{max-eq_left}
+use lib.Seq.{length-take-le}
+use borrow.Rule.Slice.PartMut.{put_mid}
+use Rattle.std.proofs.Math.ListN.{drop_of_length-le}
 use Rattle.rules.specs.Constants.{mark, mostCount}
 use Rattle.rules.specs.Word.{insWord}
-use Rattle.rules.specs.Tables.{runWords, allCode}
+use Rattle.rules.specs.Tables.{readSections, runWords, allCode}
 use Rattle.rules.specs.Clean.{rank, cleanSections}
 use Rattle.laws.specs.Sections.{words-length}
 use Rattle.tables.specs.Runs.{total, held}
 use Rattle.tables.proofs.Read.{read-length}
-use Rattle.tables.proofs.Change.{put-is, put-same}
-use Rattle.clean.specs.Pass.{firstOf, withTarget, withJump, bump, bumps, numbered, newNumber, packed, moved, Numbered, Kept, Renumbered, Packed, Cleaned}
+use Rattle.rules.specs.Operations.{put}
+use Rattle.clean.specs.Pass.{firstOf, withTarget, withJump, bump, bumps, numbered, newNumber, packed, moved, Numbered, Kept, Renumbered, Packed, Removed, Cleaned}
 use Rattle.clean.proofs.Fields.{both-count}
 use Rattle.clean.proofs.Numbers.{ranks, rank-small, numbered-length, bump-le}
 use Rattle.clean.proofs.Cleaned.{packs, moves}
 
 -- ---- renumbered
 
-module _ (ss is : List ℕ) (n e : ℕ) (h : n ≤ length ss) (l : n ≤ mostCount) where
-  size : length (numbered 0 (take n ss)) ≡ n
-  size = numbered-length (take n ss) 0 ∙ length-take-le n ss h
-
-  same : (t : ℕ) → newNumber (map firstOf (numbered 0 (take n ss) ++ drop n ss)) n (bumps 0 (take n ss)) t ≡ rank (held ss is n e) t
-  unfolding held
-  same t =
-      let z : length (take n ss) ≡ n = length-take-le n ss h in
-      let q : length (take n ss) ≤ mostCount = omega arith in
-      rw z at (ranks (take n ss) (take e is) (drop n ss) q t)
-
-  pub renumbered : (s1 : List ℕ) (k : ℕ) → Numbered ss s1 n k →
-      (s2 t2 : List ℕ) → t2 ≡ map (withJump (newNumber (map firstOf s1) n k)) (take e is) ++ drop e is → s2 ≡ map (withTarget (newNumber (map firstOf s1) n k)) (take n s1) ++ drop n s1 →
-      Renumbered ss is s2 t2 n e
-  renumbered s1 k o s2 t2 x y =
-      let f : newNumber (map firstOf (numbered 0 (take n ss) ++ drop n ss)) n (bumps 0 (take n ss)) ≡ rank (held ss is n e) = fun_ext same in
-      record {
-        sections = y ∙ rw (o.sections, o.count, f, take_at (numbered 0 (take n ss)) (drop n ss) n size, drop_at (numbered 0 (take n ss)) (drop n ss) n size);
-        instrs = x ∙ rw (o.sections, o.count, f);
-      }
+pub renumbered : (ss is : List ℕ) → length ss ≤ mostCount → (s1 : List ℕ) (k : ℕ) → Numbered ss s1 k →
+    (s2 t2 : List ℕ) → t2 ≡ map (withJump (newNumber (map firstOf s1) k)) is → s2 ≡ map (withTarget (newNumber (map firstOf s1) k)) s1 →
+    Renumbered ss is s2 t2
+renumbered ss is h s1 k o s2 t2 x y =
+    let f : newNumber (map firstOf (numbered 0 ss)) (bumps 0 ss) ≡ rank (readSections ss is) = fun_ext (ranks ss is h) in
+    record { sections = y ∙ rw (o.sections, o.count, f); instrs = x ∙ rw (o.sections, o.count, f) }
 
 -- ---- packed
 
 taken-length : (m : ℕ) (ws t : List ℕ) → take m t ≡ ws → m ≤ length t → length ws ≡ m
 taken-length m ws t a h = rw (← a) (length-take-le m t h)
 
-pub packed-whole : (ss is s3 t3 : List ℕ) (n e m b : ℕ) → Kept ss is s3 t3 n e m b → n ≤ length s3 → e ≤ length t3 → (s4 t4 : List ℕ) →
-    s4 ≡ take m s3 ++ (replicate (n - m) 0 ++ drop n s3) → t4 ≡ take b t3 ++ (replicate (e - b) 0 ++ drop e t3) → Packed ss is s4 t4 n e m b
-packed-whole ss is s3 t3 n e m b k h l s4 t4 x y =
+pub packed-whole : (ss is s3 t3 : List ℕ) (m b : ℕ) → Kept ss is s3 t3 m b → length s3 ≡ length ss → length t3 ≡ length is → (s4 t4 : List ℕ) →
+    s4 ≡ take m s3 ++ replicate (length s3 - m) 0 → t4 ≡ take b t3 ++ replicate (length t3 - b) 0 → Packed ss is s4 t4 m b
+packed-whole ss is s3 t3 m b k h l s4 t4 x y =
     let p = k.fewer in
     let q = k.shorter in
     let ml : m ≤ length s3 = omega arith in
     let bl : b ≤ length t3 = omega arith in
-    let u = taken-length m (packed 0 (take n ss)) s3 k.sections ml in
-    let v = taken-length b (moved (take n ss) (take e is)) t3 k.instrs bl in
     record {
-      sections = x ∙ put-is n m (packed 0 (take n ss)) ss s3 k.sections u p k.section-rest;
-      instrs = y ∙ put-is e b (moved (take n ss) (take e is)) is t3 k.instrs v q k.instr-rest;
-      section-count = sym u;
-      instr-count = sym v;
+      sections = x ∙ rw (k.sections, h);
+      instrs = y ∙ rw (k.instrs, l);
+      section-count = sym (taken-length m (packed 0 ss) s3 k.sections ml);
+      instr-count = sym (taken-length b (moved ss is) t3 k.instrs bl);
       fewer = p;
       shorter = q;
     }
+
+-- zeros from m on
+pub zeros-behind : (s ys : List ℕ) (m : ℕ) → ys ≡ replicate (length s - m) 0 → put_mid m (length s - m) s ys ≡ take m s ++ replicate (length s - m) 0
+zeros-behind s ys m e =
+    let z : drop (length s - m) (drop m s) ≡ [] = drop_of_length-le (drop m s) (let l = length-drop m s in omega arith) in
+    rw (e, z, append-nil)
 
 -- ---- clean
 
@@ -74,60 +67,64 @@ totals f fb (w ∷ ws) j h =
     let y : bump j w + length ws ≤ mostCount = omega (arith, bump-le j w) in
     rw (both-count f fb (bump j w) w x, totals f fb ws (bump j w) y)
 
-module _ (ss is s2 t2 : List ℕ) (n e : ℕ) (h : n ≤ length ss) (l : n ≤ mostCount) (k : e ≤ length is) (o : total (take n ss) ≡ e) (r : Renumbered ss is s2 t2 n e) where
+module _ (ss is : List ℕ) (l : length ss ≤ mostCount) (o : total ss ≡ length is) (s2 t2 : List ℕ) (r : Renumbered ss is s2 t2) where
   abbrev f : ℕ → ℕ
-  f = rank (held ss is n e)
+  f = rank (readSections ss is)
 
   fb : (t : ℕ) → f t < mark
-  unfolding held
-  fb t = rank-small (held ss is n e) (let z = read-length (take n ss) (take e is) in let y = length-take-le n ss h in omega arith) t
+  fb t = rank-small (readSections ss is) (let z = read-length ss is in omega arith) t
 
-  few : 0 + length (take n ss) ≤ mostCount
-  few = let y = length-take-le n ss h in omega arith
+  few : 0 + length ss ≤ mostCount
+  few = omega arith
 
-  size2 : length (map (withTarget f) (numbered 0 (take n ss))) ≡ n
-  size2 = simp length-map (size ss is n e h l)
+  enough : total ss ≤ length is
+  enough = omega arith
 
-  taken : take n s2 ≡ map (withTarget f) (numbered 0 (take n ss))
-  taken = rw r.sections (take_at (map (withTarget f) (numbered 0 (take n ss))) (drop n ss) n size2)
+  size : length s2 ≡ length ss
+  size = rw r.sections (simp length-map (numbered-length ss 0))
 
-  left : drop n s2 ≡ drop n ss
-  left = rw r.sections (drop_at (map (withTarget f) (numbered 0 (take n ss))) (drop n ss) n size2)
+  size-is : length t2 ≡ length is
+  size-is = rw r.instrs (length-map is (withJump f))
 
-  size3 : length (map (withJump f) (take e is)) ≡ e
-  size3 = simp length-map (length-take-le e is k)
+  pub pack-total : total s2 ≡ length t2
+  pack-total = rw (size-is, r.sections) (totals f fb ss 0 few ∙ o)
 
-  taken-is : take e t2 ≡ map (withJump f) (take e is)
-  taken-is = rw r.instrs (take_at (map (withJump f) (take e is)) (drop e is) e size3)
+  sections-are : packed 0 s2 ≡ runWords 0 (cleanSections (readSections ss is))
+  unfolding cleanSections
+  sections-are = rw r.sections (packs f fb ss is 0 few enough 0)
 
-  left-is : drop e t2 ≡ drop e is
-  left-is = rw r.instrs (drop_at (map (withJump f) (take e is)) (drop e is) e size3)
+  instrs-are : moved s2 t2 ≡ map insWord (allCode (cleanSections (readSections ss is)))
+  unfolding cleanSections
+  instrs-are = rw (r.sections, r.instrs) (moves f fb ss is 0 few enough)
 
-  pub pack-total : total (take n s2) ≡ e
-  pack-total = rw taken (totals f fb (take n ss) 0 few ∙ o)
-
-  enough : total (take n ss) ≤ length (take e is)
-  enough = let z = length-take-le e is k in omega arith
-
-  sections-are : packed 0 (take n s2) ≡ runWords 0 (cleanSections (held ss is n e))
-  unfolding cleanSections held
-  sections-are = rw taken (packs f fb (take n ss) (take e is) 0 few enough 0)
-
-  instrs-are : moved (take n s2) (take e t2) ≡ map insWord (allCode (cleanSections (held ss is n e)))
-  unfolding cleanSections held
-  instrs-are = rw (taken, taken-is) (moves f fb (take n ss) (take e is) 0 few enough)
-
-  pub cleaned-whole : (s4 t4 : List ℕ) (m b : ℕ) → Packed s2 t2 s4 t4 n e m b → Cleaned ss is s4 t4 n e m b
-  cleaned-whole s4 t4 m b p =
-      let x : m ≡ length (runWords 0 (cleanSections (held ss is n e))) = p.section-count ∙ ap length sections-are in
-      let y : b ≡ length (map insWord (allCode (cleanSections (held ss is n e)))) = p.instr-count ∙ ap length instrs-are in
-      let u = p.fewer in
-      let v = p.shorter in
-      let u' : length (runWords 0 (cleanSections (held ss is n e))) ≤ n = omega arith in
-      let v' : length (map insWord (allCode (cleanSections (held ss is n e)))) ≤ e = omega arith in
+  pub removed : (s4 t4 : List ℕ) (m b : ℕ) → Packed s2 t2 s4 t4 m b → Removed ss is s4 t4 m b
+  removed s4 t4 m b p =
       record {
-        sections = p.sections ∙ rw sections-are (put-same n (runWords 0 (cleanSections (held ss is n e))) s2 ss u' left);
-        instrs = p.instrs ∙ rw instrs-are (put-same e (map insWord (allCode (cleanSections (held ss is n e)))) t2 is v' left-is);
-        section-count = x ∙ words-length 0 (cleanSections (held ss is n e));
-        instr-count = y ∙ length-map (allCode (cleanSections (held ss is n e))) insWord;
+        sections = p.sections ∙ rw (sections-are, size);
+        instrs = p.instrs ∙ rw (instrs-are, size-is);
+        section-count = p.section-count ∙ ap length sections-are ∙ words-length 0 (cleanSections (readSections ss is));
+        instr-count = p.instr-count ∙ ap length instrs-are ∙ length-map (allCode (cleanSections (readSections ss is))) insWord;
+        fewer = rw size at p.fewer;
+        shorter = rw size-is at p.shorter;
       }
+
+-- ---- in the whole tables
+
+put-whole : (n m : ℕ) (ws t : List ℕ) → length ws ≡ m → m ≤ n → (ws ++ replicate (n - m) 0) ++ drop n t ≡ put 0 n ws t
+unfolding put
+put-whole n m ws t h l = let z : max n m ≡ n = max-eq_left l in rw (h, z) (append_assoc ws (replicate (n - m) 0) (drop n t))
+
+pub cleaned-whole : (ss is : List ℕ) (n e : ℕ) → n ≤ length ss → e ≤ length is → (s t : List ℕ) (m b : ℕ) → Removed (take n ss) (take e is) s t m b → Cleaned ss is (s ++ drop n ss) (t ++ drop e is) n e m b
+unfolding held
+cleaned-whole ss is n e h k s t m b r =
+    let cs = cleanSections (readSections (take n ss) (take e is)) in
+    let x = length-take-le n ss h in
+    let y = length-take-le e is k in
+    let u : m ≤ n = rw x at r.fewer in
+    let v : b ≤ e = rw y at r.shorter in
+    record {
+      sections = rw (r.sections, x) (put-whole n m (runWords 0 cs) ss (words-length 0 cs ∙ sym r.section-count) u);
+      instrs = rw (r.instrs, y) (put-whole e b (map insWord (allCode cs)) is (length-map (allCode cs) insWord ∙ sym r.instr-count) v);
+      section-count = r.section-count;
+      instr-count = r.instr-count;
+    }

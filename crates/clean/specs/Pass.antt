@@ -1,9 +1,9 @@
 -- The passes of clean on words: what each leaves in the tables.
-use Rattle.std.specs.Prelude.{Bool, true, false, cond, ◌≡◌, List, [], ◌∷◌, ◌++◌, map, ℕ, pred, ◌+◌, ◌≤◌, ltb, length, take, drop, get_or}
+use Rattle.std.specs.Prelude.{Bool, true, false, cond, ◌≡◌, List, [], ◌∷◌, ◌++◌, map, ℕ, pred, ◌+◌, ◌-◌, ◌≤◌, ltb, length, take, drop, get_or, replicate}
 use Rattle.rules.specs.Bits.{isOne}
 use Rattle.rules.specs.Instr.{isJump}
 use Rattle.rules.specs.Word.{wordRun, runWord, wordIns, insWord}
-use Rattle.rules.specs.Tables.{successOf, runWords, allCode, runOf}
+use Rattle.rules.specs.Tables.{successOf, readSections, runWords, allCode, runOf}
 use Rattle.rules.specs.Clean.{renIns, renNext, rank, cleanSections}
 use Rattle.rules.specs.Operations.{put}
 use Rattle.words.specs.Runs as Runs
@@ -39,13 +39,13 @@ unfoldable pub numbered : ℕ → List ℕ → List ℕ
 numbered k [] = []
 numbered k (w ∷ ws) = withFirst (bump k w) w ∷ numbered (bump k w) ws
 
--- the new number of t, where the first n fields fs carry those numbers and all that are kept are k
-unfoldable pub newNumber : List ℕ → ℕ → ℕ → ℕ → ℕ
-newNumber fs n k t = pred (cond (ltb t n) (get_or fs t 0) k)
+-- the new number of t, where the fields fs carry those numbers and all that are kept are k
+unfoldable pub newNumber : List ℕ → ℕ → ℕ → ℕ
+newNumber fs k t = pred (cond (ltb t (length fs)) (get_or fs t 0) k)
 
-pub record Numbered (ss ss' : List ℕ) (n kept : ℕ) : Type 0 where
-  pub sections : ss' ≡ numbered 0 (take n ss) ++ drop n ss
-  pub count : kept ≡ bumps 0 (take n ss)
+pub record Numbered (ss ss' : List ℕ) (kept : ℕ) : Type 0 where
+  pub sections : ss' ≡ numbered 0 ss
+  pub count : kept ≡ bumps 0 ss
 
 -- ---- kept words
 
@@ -63,27 +63,36 @@ moved [] is = []
 moved (w ∷ ws) is = cond (fixedWord w) (take (countOf w) is ++ moved ws (drop (countOf w) is)) (moved ws (drop (countOf w) is))
 
 -- m kept sections, b instructions
-pub record Kept (ss is ss' is' : List ℕ) (n e m b : ℕ) : Type 0 where
-  pub sections : take m ss' ≡ packed 0 (take n ss)
-  pub section-rest : drop n ss' ≡ drop n ss
-  pub instrs : take b is' ≡ moved (take n ss) (take e is)
-  pub instr-rest : drop e is' ≡ drop e is
-  pub fewer : m ≤ n
-  pub shorter : b ≤ e
+pub record Kept (ss is ss' is' : List ℕ) (m b : ℕ) : Type 0 where
+  pub sections : take m ss' ≡ packed 0 ss
+  pub instrs : take b is' ≡ moved ss is
+  pub fewer : m ≤ length ss
+  pub shorter : b ≤ length is
 
-pub record Packed (ss is ss' is' : List ℕ) (n e m b : ℕ) : Type 0 where
-  pub sections : ss' ≡ put 0 n (packed 0 (take n ss)) ss
-  pub instrs : is' ≡ put 0 e (moved (take n ss) (take e is)) is
-  pub section-count : m ≡ length (packed 0 (take n ss))
-  pub instr-count : b ≡ length (moved (take n ss) (take e is))
-  pub fewer : m ≤ n
-  pub shorter : b ≤ e
+-- zeros behind them
+pub record Packed (ss is ss' is' : List ℕ) (m b : ℕ) : Type 0 where
+  pub sections : ss' ≡ packed 0 ss ++ replicate (length ss - m) 0
+  pub instrs : is' ≡ moved ss is ++ replicate (length is - b) 0
+  pub section-count : m ≡ length (packed 0 ss)
+  pub instr-count : b ≡ length (moved ss is)
+  pub fewer : m ≤ length ss
+  pub shorter : b ≤ length is
 
 -- ---- the whole
 
-pub record Renumbered (ss is ss' is' : List ℕ) (n e : ℕ) : Type 0 where
-  pub sections : ss' ≡ map (withTarget (rank (held ss is n e))) (numbered 0 (take n ss)) ++ drop n ss
-  pub instrs : is' ≡ map (withJump (rank (held ss is n e))) (take e is) ++ drop e is
+-- section and instruction words with the new numbers
+pub record Renumbered (ss is ss' is' : List ℕ) : Type 0 where
+  pub sections : ss' ≡ map (withTarget (rank (readSections ss is))) (numbered 0 ss)
+  pub instrs : is' ≡ map (withJump (rank (readSections ss is))) is
+
+-- the cleaned sections' words, m sections and b instructions, and zeros behind them
+pub record Removed (ss is ss' is' : List ℕ) (m b : ℕ) : Type 0 where
+  pub sections : ss' ≡ runWords 0 (cleanSections (readSections ss is)) ++ replicate (length ss - m) 0
+  pub instrs : is' ≡ map insWord (allCode (cleanSections (readSections ss is))) ++ replicate (length is - b) 0
+  pub section-count : m ≡ length (cleanSections (readSections ss is))
+  pub instr-count : b ≡ length (allCode (cleanSections (readSections ss is)))
+  pub fewer : m ≤ length ss
+  pub shorter : b ≤ length is
 
 -- the tables of the cleaned sections, with m sections and b instructions, zeros up to n and e
 pub record Cleaned (ss is ss' is' : List ℕ) (n e m b : ℕ) : Type 0 where
@@ -94,6 +103,6 @@ pub record Cleaned (ss is ss' is' : List ℕ) (n e m b : ℕ) : Type 0 where
 
 -- ---- what is refused
 
--- an instruction that jumps jumps to one of the n sections that is fixed
-unfoldable pub jumpIn : List ℕ → ℕ → ℕ → Bool
-jumpIn ss n w = cond (isJump (wordIns w)) (cond (ltb (wordIns w).fst n) (fixedWord (get_or ss (wordIns w).fst 0)) false) true
+-- an instruction that jumps jumps to one of the sections that is fixed
+unfoldable pub jumpIn : List ℕ → ℕ → Bool
+jumpIn ss w = cond (isJump (wordIns w)) (cond (ltb (wordIns w).fst (length ss)) (fixedWord (get_or ss (wordIns w).fst 0)) false) true

@@ -1,5 +1,6 @@
 // The new numbers of sections: while cleaning runs, the first-instruction field of each section's word carries the number of sections kept
-// up to and including it. Asks that the counted words lie inside the table and that there are at most 65,535.
+// up to and including it. Asks that there are at most 65,535. The numbered words and how many are kept stand beside each other in what reads
+// them: a struct of both would hold the words while they are written.
 ghost use Rattle.rules.specs.Constants.{mostCount};
 ghost use Rattle.std.specs.Prelude.{◌≡◌, map, ◌≤◌, ◌<◌, ◌+◌, pred, length};
 ghost use Rattle.clean.specs.Pass.{bump, newNumber, firstOf, Numbered};
@@ -14,44 +15,31 @@ fn bump(k: u16, w: SectionWord) -> u16
     requires { k < mostCount }
     ensures { (result ≡ bump k w.0) × (result ≤ k + 1) }
 {
-    if is_fixed(w) {
-        return k + 1;
-    }
-    k
+    if is_fixed(w) { k + 1 } else { k }
 }
 
 // Each word numbered; all that are kept are handed back.
-pub fn number(sections: &mut [u64], n: usize) -> u16
-    requires { (n ≤ length sections.old) × (n ≤ mostCount) }
-    ensures { Numbered sections.old sections.new n result }
+pub fn number(sections: &mut [u64]) -> u16
+    requires { length sections.old ≤ mostCount }
+    ensures { Numbered sections.old sections.new result }
 {
-    let mut i: usize = 0;
     let mut k: u16 = 0;
-    while i < n {
-        let w = SectionWord(sections[i]);
+    for word in sections.iter_mut() {
+        let w = SectionWord(*word);
         k = bump(k, w);
-        sections[i] = w.with_first(k).0;
-        i += 1;
+        *word = w.with_first(k).0;
     }
     k
 }
 
-fn one_less(k: u16) -> u16
-    ensures { result ≡ pred k }
-{
-    if k == 0 { 0 } else { k - 1 }
-}
-
 // The new number of a section, from the numbered words; past them, the last one's.
-#[tactic(auto, using(crate::proofs::Single::first_at), unfolding(crate::specs::Pass::newNumber))]
-pub fn new_number(sections: &[u64], n: usize, kept: u16, t: Section) -> Section
-    requires { n ≤ length sections.now }
-    ensures { result.0 ≡ newNumber (map firstOf sections.now) n kept t.0 }
+#[tactic(auto, using(crate::proofs::Single::new_number_is))]
+pub fn new_number(sections: &[u64], kept: u16, t: Section) -> Section
+    ensures { result.0 ≡ newNumber (map firstOf sections.now) kept t.0 }
 {
-    let at = t.0 as usize;
-    if at >= n {
-        return Section(one_less(kept));
-    }
-    let w = SectionWord(sections[at]);
-    Section(one_less(w.first()))
+    let through = match sections.get(usize::from(t.0)) {
+        Some(&w) => SectionWord(w).first(),
+        None => kept,
+    };
+    Section(through.saturating_sub(1))
 }

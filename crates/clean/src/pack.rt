@@ -1,11 +1,11 @@
-// Kept sections and their runs move down over the removed ones, and the words that are freed are zeroed. Asks that the counted words lie
-// inside the tables and that the runs cover the counted instructions.
+// Kept sections and their runs move down over the removed ones, and the words that are freed are zeroed. Asks that the runs cover the
+// instructions. It reads at i and writes at a place that falls behind, so it goes by index; what is shown to fit 16 bits is narrowed by `as`.
 ghost use Rattle.rules.specs.Constants.{mostCount};
-ghost use Rattle.std.specs.Prelude.{◌≡◌, ◌≤◌, length, take};
+ghost use Rattle.std.specs.Prelude.{◌≡◌, ◌≤◌, length};
 ghost use Rattle.tables.specs.Runs.{total};
 ghost use Rattle.clean.specs.Pass.{Kept, Packed};
 
-use tables::shift::{move_down, zero};
+use tables::shift::move_down;
 use tables::word::is_fixed;
 use words::section::SectionWord;
 
@@ -17,29 +17,27 @@ pub struct Room {
 }
 
 // Each run's first instruction is written anew.
-fn pack_down(sections: &mut [u64], instructions: &mut [u64], n: usize, e: usize) -> Room
-    requires { (n ≤ length sections.old) × (e ≤ length instructions.old) × (e ≤ mostCount) × (total (take n sections.old) ≡ e) }
-    ensures { Kept sections.old instructions.old sections.new instructions.new n e result.sections result.instructions }
+fn pack_down(sections: &mut [u64], instructions: &mut [u64]) -> Room
+    requires { (length instructions.old ≤ mostCount) × (total sections.old ≡ length instructions.old) }
+    ensures { Kept sections.old instructions.old sections.new instructions.new result.sections result.instructions }
 {
-    let mut i: usize = 0;
     let mut m: usize = 0;
     let mut a: usize = 0;
     let mut b: usize = 0;
-    while i < n {
+    for i in 0..sections.len() {
         let w = SectionWord(sections[i]);
         let count = w.count();
+        let size = usize::from(count);
+        let from = a;
+        a += size;
         if !is_fixed(w) {
-            a += count as usize;
-            i += 1;
             continue;
         }
         let v = SectionWord::pack(w.line_start(), w.success(), b as u16, count);
         sections[m] = v.0;
-        move_down(instructions, a, b, count as usize);
+        move_down(instructions, from, b, size);
         m += 1;
-        b += count as usize;
-        a += count as usize;
-        i += 1;
+        b += size;
     }
     Room {
         sections: m,
@@ -47,12 +45,12 @@ fn pack_down(sections: &mut [u64], instructions: &mut [u64], n: usize, e: usize)
     }
 }
 
-pub fn pack(sections: &mut [u64], instructions: &mut [u64], n: usize, e: usize) -> Room
-    requires { (n ≤ length sections.old) × (e ≤ length instructions.old) × (e ≤ mostCount) × (total (take n sections.old) ≡ e) }
-    ensures { Packed sections.old instructions.old sections.new instructions.new n e result.sections result.instructions }
+pub fn pack(sections: &mut [u64], instructions: &mut [u64]) -> Room
+    requires { (length instructions.old ≤ mostCount) × (total sections.old ≡ length instructions.old) }
+    ensures { Packed sections.old instructions.old sections.new instructions.new result.sections result.instructions }
 {
-    let r = pack_down(sections, instructions, n, e);
-    zero(sections, r.sections, n);
-    zero(instructions, r.instructions, e);
+    let r = pack_down(sections, instructions);
+    sections[r.sections..].fill(0);
+    instructions[r.instructions..].fill(0);
     r
 }

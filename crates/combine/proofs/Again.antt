@@ -7,13 +7,11 @@ use Rattle.std.proofs.Math.Option.{Option, none, some}
 use Rattle.std.proofs.lemmas.List.{map-append, length-map, nil_from_length}
 use Rattle.std.proofs.Math.ListN.{length}
 use Rattle.std.proofs.Math.Seq.{length-take-le}
-use borrow.Author.Tests.{eqb-true, eqb-false}
+use borrow.Author.Tests.{eqb-true}
 use Rattle.rules.specs.Bits.{isOne}
 use Rattle.rules.specs.Instr.{Kind, kinds}
-use Rattle.rules.specs.Constants.{mark}
-use Rattle.rules.specs.Word.{insWord, wordIns, insSpare, Run, runWord, wordRun, runSpare}
-use Rattle.rules.specs.Machine.{unfixed, section, line}
-use Rattle.rules.specs.Tables.{Tables, Counts, allb, insFits, fieldFits, successFits, startFits, runsFit, kindOf, successOf, readSections, runWords, allCode, runOf}
+use Rattle.rules.specs.Word.{insWord, wordIns, insSpare, runWord, wordRun, runSpare}
+use Rattle.rules.specs.Tables.{Tables, Counts, allb, insFits, fieldFits, successFits, startFits, runsFit, successOf, readSections, runWords, allCode, runOf}
 use Rattle.rules.specs.Preservation.{All}
 use Rattle.laws.specs.Words.{InsSmall}
 use Rattle.laws.proofs.Words.{ins-small, ins-again, wordRun-small}

@@ -2,6 +2,7 @@
 pub mod Counted
 pub mod Tests
 pub mod Walks
+pub mod Used
 pub mod Ways
 -- the turns of the pass
 pub mod Loop

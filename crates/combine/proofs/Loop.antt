@@ -1,5 +1,5 @@
 -- What holds of the tables while sections are joined, turn by turn. Assumes nothing.
-use Rattle.std.specs.Prelude.{◌≡◌, List, ◌++◌, map, ℕ, ◌+◌, ◌-◌, ◌<◌, ◌≤◌, max, length, drop, get_or, replicate, true}
+use Rattle.std.specs.Prelude.{◌≡◌, List, ◌++◌, map, ℕ, ◌+◌, ◌-◌, ◌<◌, ◌≤◌, max, length, take, drop, get_or, replicate, true}
 use Rattle.std.proofs.Common.{sym, ap, ◌∙◌, subst, append_assoc, arith, take-append-drop, drop_at}
 use Rattle.std.proofs.Math.Option.{none, some}
 use Rattle.std.proofs.Math.Nat.{max-eq_left}
@@ -12,7 +12,8 @@ use Rattle.rules.specs.Combine.{mate, combineAt, combineFuel, combineSections}
 use Rattle.tables.specs.Runs.{held}
 use Rattle.join.specs.Held.{Holds, Sound, Changed}
 use Rattle.join.proofs.Back.{holds-held, sound}
-use Rattle.join.proofs.Joins.{join-holds}
+use Rattle.join.proofs.Joins.{enough, join-holds}
+use Rattle.combine.proofs.Used.{holds-used, changed-used}
 use Rattle.joins.specs.Ahead.{Forward, forward, pair-up, low-join, forward-join}
 use Rattle.joins.specs.Pairs.{Pair, Low, to-pair, low-none, low-pair, low-more, fuel-join, fuel-none}
 use Rattle.laws.specs.Sections.{words-length}
@@ -76,11 +77,27 @@ going-starts s i n e h a =
     }
 
 module _ (s i : List ℕ) (n e : ℕ) (s' i' : List ℕ) (left s1 : ℕ) (g : Going s i n e s' i' left s1) where
-  pub going-sound : Sound s' i' left e
-  going-sound = sound s' i' left e g.ss g.holds
+  -- the words in use, which hold the sections
+  abbrev us : List ℕ
+  us = take left s'
 
-  held-is : held s' i' left e ≡ g.ss
-  held-is = holds-held s' i' left e g.ss g.holds
+  abbrev js : List ℕ
+  js = take e i'
+
+  used : Holds us js (length us) (length js) g.ss
+  used = holds-used s' i' left e g.ss g.holds
+
+  pub going-sound : Sound us js (length us) (length js)
+  going-sound = sound us js (length us) (length js) g.ss used
+
+  held-is : held us js (length us) (length js) ≡ g.ss
+  held-is = holds-held us js (length us) (length js) g.ss used
+
+  pub going-room : left ≤ length s'
+  going-room = enough s' i' left e g.ss g.holds
+
+  pub going-long : left ≡ length us
+  going-long = sym g.holds.count ∙ used.count
 
   pub going-done : left ≤ s1 → Combined s i s' i' n e (combineSections (held s i n e)) left
   going-done h =
@@ -92,7 +109,10 @@ module _ (s i : List ℕ) (n e : ℕ) (s' i' : List ℕ) (left s1 : ℕ) (g : Go
       subst (λ (x : List SectionCode). Combined s i s' i' n e x left) r (record { tables = g.changed; count = sym z; code = sym g.holds.code; fewer = g.fewer })
 
   module _ (h : s1 < left) where
-    pub going-on : none ≡ mate (held s' i' left e) s1 (get_or (held s' i' left e) s1 absent).success → Going s i n e s' i' left (s1 + 1)
+    pub going-in : s1 < length us
+    going-in = rw (← going-long) h
+
+    pub going-on : none ≡ mate (held us js (length us) (length js)) s1 (get_or (held us js (length us) (length js)) s1 absent).success → Going s i n e s' i' left (s1 + 1)
     going-on m =
         record {
           ss = g.ss;
@@ -105,7 +125,7 @@ module _ (s i : List ℕ) (n e : ℕ) (s' i' : List ℕ) (left s1 : ℕ) (g : Go
           fewer = g.fewer;
         }
 
-    module _ (s2 : ℕ) (m : some s2 ≡ mate (held s' i' left e) s1 (get_or (held s' i' left e) s1 absent).success) where
+    module _ (s2 : ℕ) (m : some s2 ≡ mate (held us js (length us) (length js)) s1 (get_or (held us js (length us) (length js)) s1 absent).success) where
       found : mate g.ss s1 (get_or g.ss s1 absent).success ≡ some s2
       found = sym (rw held-is at m)
 
@@ -115,22 +135,25 @@ module _ (s i : List ℕ) (n e : ℕ) (s' i' : List ℕ) (left s1 : ℕ) (g : Go
       long : length g.ss ≡ left
       long = g.holds.count
 
-      pub going-up : (s1 < s2) × (s2 < left)
-      going-up = let u = pair-up g.ss g.ahead s1 s2 paired in (u.0, omega (arith, u.1, long))
+      pub going-up : (s1 < s2) × (s2 < length us)
+      going-up = let u = pair-up g.ss g.ahead s1 s2 paired in (u.0, omega (arith, u.1, used.count))
 
-      pub going-joined : (s'' i'' : List ℕ) → Changed s' i' s'' i'' left e (combineAt (held s' i' left e) s1 s2) → Going s i n e s'' i'' (left - 1) s1
+      pub going-joined : (s'' i'' : List ℕ) → Changed us js s'' i'' (length us) (length js) (combineAt (held us js (length us) (length js)) s1 s2) → Going s i n e (s'' ++ drop left s') (i'' ++ drop e i') (left - 1) s1
       going-joined s'' i'' c =
           let u = going-up in
-          let d : Changed s' i' s'' i'' left e (combineAt g.ss s1 s2) = rw held-is at c in
-          let k = join-holds s' i' left e g.ss g.holds s1 s2 u.0 u.1 s'' i'' d in
+          let v : s2 < left = rw going-long u.1 in
+          let b : Changed us js s'' i'' (length us) (length js) (combineAt g.ss s1 s2) = rw held-is at c in
+          let f = join-holds us js (length us) (length js) g.ss used s1 s2 u.0 u.1 s'' i'' b in
+          let d = changed-used s' i' left e g.ss g.holds s'' i'' (combineAt g.ss s1 s2) (omega (arith, f.count, going-long)) b in
+          let k = join-holds s' i' left e g.ss g.holds s1 s2 u.0 v (s'' ++ drop left s') (i'' ++ drop e i') d in
           let q : s1 < length g.ss = omega (arith, long) in
           record {
             ss = combineAt g.ss s1 s2;
             holds = k;
-            changed = changed-twice s i s' i' s'' i'' n left e g.ss (combineAt g.ss s1 s2) long (omega (arith, k.count)) g.fewer g.holds.code g.changed d;
+            changed = changed-twice s i s' i' (s'' ++ drop left s') (i'' ++ drop e i') n left e g.ss (combineAt g.ss s1 s2) long (omega (arith, k.count)) g.fewer g.holds.code g.changed d;
             ahead = forward-join g.ss s1 s2 paired u.0 g.ahead;
             low = low-join g.ss s1 s2 paired u.0 g.low;
             rest = sym (fuel-join g.ss left s1 s2 (omega arith) (low-pair g.ss s1 s2 g.low q found)) ∙ g.rest;
-            within = omega (arith, u.0, u.1);
+            within = omega (arith, u.0, v);
             fewer = omega (arith, g.fewer);
           }

@@ -6,8 +6,9 @@ use mathlib.Core.List.{List}
 use Prim.Native.Nat.{ℕ, ◌+◌, ◌<◌, ◌≤◌}
 use native.Mathlib.Omega.{arith}
 use lib.Dec.{eqb, leb}
-use lib.ListN.{length, take, get_or, length-take}
-use borrow.Author.Tests.{ne_eqb, lt-ltb, le-ltb}
+use lib.ListN.{length, take, get_or}
+use lib.Seq.{take-length}
+use borrow.Author.Tests.{lt-ltb, le-ltb}
 use Rattle.rules.specs.Bits.{isOne}
 use Rattle.rules.specs.Word.{wordRun}
 use Rattle.rules.specs.Machine.{SectionOrLine, unfixed, section, line, absent}
@@ -15,7 +16,6 @@ use Rattle.rules.specs.Tables.{successOf}
 use Rattle.rules.specs.Combine.{refs, mayTake, mate}
 use Rattle.tables.specs.Runs.{total, held}
 use Rattle.join.specs.Held.{Sound}
-use Rattle.join.proofs.Joins.{enough, enough-code}
 use Rattle.join.proofs.Back.{holds-tell}
 use Rattle.join.proofs.Tells.{tell-total}
 use Rattle.combine.specs.Counting.{nextOf, refsNexts, refsJumps}
@@ -23,36 +23,36 @@ use Rattle.combine.proofs.Counted.{refs-are}
 use Rattle.combine.specs.Tests.{startAt, nextIn, wordAhead}
 use Rattle.combine.proofs.Tests.{start-at, success-at}
 
-module _ (s i : List ℕ) (n e : ℕ) (h : Sound s i n e) where
-  pub long : n ≤ length s
-  long = enough s i n e (held s i n e) h
+module _ (s i : List ℕ) (h : Sound s i (length s) (length i)) where
+  abbrev n : ℕ
+  n = length s
 
-  pub long-code : e ≤ length i
-  long-code = enough-code s i n e (held s i n e) h
+  abbrev e : ℕ
+  e = length i
 
   -- the runs cover the instructions
-  covered : total (take n s) ≡ length (take e i)
-  covered = ap total h.sections ∙ (tell-total _ (held s i n e) (holds-tell s i n e (held s i n e) h) ∙ (h.code ∙ taken))
-    where
-      taken : e ≡ length (take e i)
-      taken = omega (arith, length-take e i, long-code)
+  covered : total s ≡ length i
+  covered = ap total (sym (take-length s) ∙ h.sections) ∙ (tell-total _ (held s i n e) (holds-tell s i n e (held s i n e) h) ∙ h.code)
 
-  pub refs-counted : (t a b : ℕ) → a ≡ refsNexts t (take n s) → b ≡ refsJumps t (take e i) → a + b ≡ refs t (held s i n e)
+  pub refs-counted : (t a b : ℕ) → a ≡ refsNexts t s → b ≡ refsJumps t i → a + b ≡ refs t (held s i n e)
   unfolding held
-  refs-counted t a b p q = rw (p, q) (sym (refs-are t (take n s) (take e i) covered))
+  refs-counted t a b p q = rw (p, q, take-length s, take-length i) (sym (refs-are t s i covered))
+
+  long : n ≤ length s
+  long = omega arith
 
   -- ---- may s1 take s2 in?
 
-  module _ (s1 s2 : ℕ) (p : s1 ≡ s2 → ⊥) (q : s2 < n) where
+  module _ (s1 s2 : ℕ) (p : eqb s1 s2 ≡ false) (q : s2 < n) where
     starts : (get_or (held s i n e) s2 absent).lineStart ≡ isOne (wordRun (get_or s s2 0)).lineStart
     unfolding held
     starts = start-at s (take e i) n long s2 q
 
     pub not-start : true ≡ isOne (wordRun (get_or s s2 0)).lineStart → false ≡ mayTake (held s i n e) s1 s2
-    not-start z = rw (ne_eqb s1 s2 p, starts, ← z)
+    not-start z = rw (p, starts, ← z)
 
     pub by-refs : false ≡ isOne (wordRun (get_or s s2 0)).lineStart → (c : Bool) → c ≡ eqb (refs s2 (held s i n e)) 1 → c ≡ mayTake (held s i n e) s1 s2
-    by-refs z c c-is = c-is ∙ rw (ne_eqb s1 s2 p, starts, ← z)
+    by-refs z c c-is = c-is ∙ rw (p, starts, ← z)
 
   -- ---- the section that s1 may take in
 

@@ -7,7 +7,7 @@ use native.Mathlib.Omega.{arith}
 use native.Mathlib.Nat.{max-eq_left, sub_self}
 use lib.IntN.{pos}
 use lib.ListN.{length, take, drop, get_or, length-map}
-use lib.Seq.{length-take-le}
+use lib.Seq.{take-length, length-take-le}
 use Rattle.rules.specs.Bits.{refused, ok}
 use Rattle.rules.specs.Refusal as Refusal
 use Rattle.rules.specs.Word.{insWord, wordSpan}
@@ -45,20 +45,26 @@ module _ (t : Tables) (u : Counts) where
     unfolding held
     fixed-is = fixed-are (take u.sections t.sections) (take u.instrs t.instrs)
 
-    ahead-is : allAhead (machineOf t u).sections 0 (machineOf t u).sections ≡ wordsAhead t.sections u.sections 0 (take u.sections t.sections)
+    -- the section words that are in use
+    abbrev used : List ℕ
+    used = take u.sections t.sections
+
+    ahead-is : allAhead (machineOf t u).sections 0 (machineOf t u).sections ≡ wordsAhead used (length used) 0 used
     unfolding held
-    ahead-is = ahead-from t.sections (take u.instrs t.instrs) u.sections few-sections 0 (take u.sections t.sections) (take u.instrs t.instrs)
+    ahead-is =
+        let all : length used ≤ length used = omega arith in
+        rw (take-length used) at (ahead-from used (take u.instrs t.instrs) (length used) all 0 used (take u.instrs t.instrs))
 
     pub combine-14 : false ≡ allb fixedWord (take u.sections t.sections) → (refused Refusal.isUnfixed, t) ≡ combine t u
     unfolding combine combineIn
     combine-14 e = change-no t u combineIn h Refusal.isUnfixed (rw (fixed-is, ← e, combineIn))
 
     module _ (f : true ≡ allb fixedWord (take u.sections t.sections)) where
-      pub combine-15 : false ≡ wordsAhead t.sections u.sections 0 (take u.sections t.sections) → (refused Refusal.linksBack, t) ≡ combine t u
+      pub combine-15 : false ≡ wordsAhead used (length used) 0 used → (refused Refusal.linksBack, t) ≡ combine t u
       unfolding combine combineIn
       combine-15 e = change-no t u combineIn h Refusal.linksBack (rw (fixed-is, ← f, ahead-is, ← e, combineIn))
 
-      module _ (a : true ≡ wordsAhead t.sections u.sections 0 (take u.sections t.sections)) where
+      module _ (a : true ≡ wordsAhead used (length used) 0 used) where
         -- what the pass asks
         pub no-links-back : allAhead (held t.sections t.instrs u.sections u.instrs) 0 (held t.sections t.instrs u.sections u.instrs) ≡ true
         no-links-back = ahead-is ∙ sym a

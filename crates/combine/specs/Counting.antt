@@ -1,5 +1,5 @@
 -- References in words: counted over section words and instruction words.
-use Rattle.std.specs.Prelude.{List, [], ◌∷◌, ℕ, ◌+◌}
+use Rattle.std.specs.Prelude.{Bool, false, List, [], ◌∷◌, ℕ, ◌+◌, eqb}
 use Rattle.std.proofs.Math.Option.{Option, none, some}
 use Rattle.rules.specs.Instr.{getSection}
 use Rattle.rules.specs.Word.{wordRun, wordIns}
@@ -12,6 +12,11 @@ abbrev pub nextOf : SectionOrLine → Option ℕ
 nextOf unfixed = none
 nextOf (section t) = some t
 nextOf (line r) = none
+
+-- is it t?
+abbrev pub reaches : ℕ → Option ℕ → Bool
+reaches t none = false
+reaches t (some u) = eqb u t
 
 -- one where it is t
 abbrev pub hits : ℕ → Option ℕ → ℕ

@@ -3,14 +3,14 @@
 use Rattle.rules.specs.Constants.{mostCount}
 use Rattle.std.specs.Prelude.{◌≡◌, take, get_or, set}
 use Rattle.std.proofs.Common.{sym, ◌∙◌, take-append-drop, length-drop, length-take, length-take-le}
-use Rattle.std.proofs.Math.Path.{ap, subst}
-use mathlib.Core.List.{List, ◌∷◌, ◌++◌, map, append_assoc, map-append}
+use Rattle.std.proofs.Math.Path.{refl, ap, subst}
+use mathlib.Core.List.{List, [], ◌∷◌, ◌++◌, map, append_assoc, map-append}
 use Prim.Native.Nat.{ℕ, suc, ◌+◌, ◌-◌, ◌<◌, ◌≤◌, max}
 use native.Mathlib.Omega.{arith}
 use Rattle.std.proofs.Math.Nat.{max-eq_left}
-use Rattle.std.proofs.Math.ListN.{length, drop, length-append, length-map}
-use Rattle.std.proofs.Math.Seq.{slice, take_at, drop_at, length-slice}
-use Rattle.std.proofs.lemmas.List.{get_or_at, set_at}
+use Rattle.std.proofs.Math.ListN.{length, drop, length-append, length-map, length-set, drop_of_length-le}
+use Rattle.std.proofs.Math.Seq.{slice, take_at, drop_at, take-length, length-slice}
+use Rattle.std.proofs.lemmas.List.{get_or_at, set_at, append-nil}
 use Rattle.rules.specs.Instr.{Instruction, fall}
 use Rattle.rules.specs.Word.{runWord, wordRun, insWord}
 use Rattle.rules.specs.Machine.{SectionCode, absent}
@@ -23,8 +23,8 @@ use Rattle.laws.specs.Lists.{all-left, all-right, all-append}
 use Rattle.laws.proofs.SectionWord.{first-is, count-is}
 use Rattle.laws.specs.Words.{InsSmall}
 use Rattle.laws.specs.Sections.{words-length, words-cons, words-append, code-append}
-use Rattle.tables.specs.Runs.{countOf, total}
-use Rattle.join.specs.Held.{SectSmall, Holds, Changed}
+use Rattle.tables.specs.Runs.{countOf, total, held}
+use Rattle.join.specs.Held.{SectSmall, Holds, Sound, Changed}
 use Rattle.join.specs.Parts.{exchanged}
 use Rattle.join.specs.Passes.{jumpFallen, mergedWord, cutOut, numbered}
 use Rattle.join.proofs.Tells.{Tell, tell, tells, tell-append, tell-total, tell-length, merged, settles, code-longer}
@@ -301,4 +301,33 @@ module _ (S I : List ℕ) (n e : ℕ) (ss : List SectionCode) (h : Holds S I n e
           few = omega (arith, h.few);
           short = h.short;
           small = subst (All SectSmall) combined (small-fall j (ps ++ (joined a b ∷ (ms ++ zs))) (small-new ps ms zs a b (drop n S) (drop e I) i j n e len-ps len-ms len-zs small-whole code-whole h.short));
+        }
+
+-- ---- of tables that are in use as a whole
+module _ (S I : List ℕ) (h : Sound S I (length S) (length I)) (i j i' j' : ℕ) (a : i' ≡ i) (b : j' ≡ j) (p : i < j) (q : j < length S) where
+  pub here : Steps S I (length S) (length I) i' j' (combineAt (held S I (length S) (length I)) i j)
+  here = rw (a, b) (joins S I (length S) (length I) (held S I (length S) (length I)) h i j p q)
+
+  -- S1's word takes S2 in, and S2's is out
+  module _ (w : ℕ) (c : w ≡ mergedWord (get_or S i' 0) (get_or S j' 0)) (s : List ℕ) (l : length s ≡ length (set S i' w)) (d : s ≡ cutOut j' (length (set S i' w)) (set S i' w)) where
+    cut : s ≡ cutOut j' (length S) (set S i' (mergedWord (get_or S i' 0) (get_or S j' 0)))
+    cut = rw (length-set, c) at d
+
+    as-long : length s ≡ length S
+    as-long = rw length-set at l
+
+    pub left-total : total (take (length s - 1) s) ≤ mostCount
+    left-total = rw as-long (omega (arith, here.all s cut, h.short))
+
+    pub left-joined : (u t v : List ℕ) → u ≡ numbered j 0 (take (length s - 1) s) → length t ≡ length I →
+        t ≡ exchanged ((wordRun (get_or S i' 0)).first + (wordRun (get_or S i' 0)).count) (wordRun (get_or S j' 0)).first ((wordRun (get_or S j' 0)).first + (wordRun (get_or S j' 0)).count) I → v ≡ map (jumpFallen j) t →
+        Changed S I (u ++ drop (length s - 1) s) v (length S) (length I) (combineAt (held S I (length S) (length I)) i j)
+    left-joined u t v m k n o =
+        let x : u ≡ numbered j' 0 (take (length S - 1) s) = m ∙ rw (as-long, b) refl in
+        let y : v ≡ map (jumpFallen j') t = o ∙ rw b refl in
+        let f : take (length I) t ≡ t = ap (λ (e : ℕ). take e t) (sym k) ∙ take-length t in
+        let g : drop (length I) t ≡ [] = drop_of_length-le t (omega arith) in
+        record {
+          sections = rw (as-long, x) (here.sections s cut);
+          instrs = y ∙ (sym (append-nil (map (jumpFallen j') t)) ∙ rw (f, g) at (here.instrs t n));
         }

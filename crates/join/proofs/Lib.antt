@@ -8,5 +8,4 @@ pub mod Parted
 pub mod Joins
 -- the turns of loops, and single words
 pub mod Scan
-pub mod Turns
 pub mod Single

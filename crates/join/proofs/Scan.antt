@@ -1,44 +1,48 @@
 -- Words of a table changed in place, one turn after the other: what is done, then what is left to do, is all that was to do. Assumes nothing.
-use mathlib.Core.Path.{◌≡◌, ◌∙◌}
-use mathlib.Core.List.{List, ◌∷◌, ◌++◌, append_assoc}
+use mathlib.Core.Path.{◌≡◌, sym, ◌∙◌}
+use mathlib.Core.List.{List, ◌∷◌, ◌++◌, append_assoc, append-nil}
 use Prim.Native.Nat.{ℕ, suc, ◌+◌, ◌-◌, ◌<◌, ◌≤◌}
 use native.Mathlib.Omega.{arith}
 use native.Mathlib.Numerals.{add-one}
-use lib.ListN.{length, take, drop, get_or, set, take-append-drop}
-use lib.Seq.{slice, slice-cons, slice_empty, append_snoc, set_split}
-use Rattle.tables.specs.Runs.{countOf, total, Down}
-use Rattle.tables.proofs.InPlace.{set-taken, set-left, set-rest, drop-take}
+use lib.ListN.{length, take, drop, get_or, set, length-drop, drop_of_length-le}
+use Rattle.std.proofs.lemmas.List.{drop_more}
+use lib.Seq.{take_all, paste, slice, drop-set-lt, set_split}
+use Rattle.std.proofs.lemmas.List.Edits.{take-paste}
+use Rattle.tables.specs.Runs.{countOf, total}
+use Rattle.tables.proofs.InPlace.{store-more, drop-take}
 use Rattle.join.specs.Passes.{cutOut, wordAt, numbered}
 
 -- ---- numbered anew
-module _ (j : ℕ) (s : List ℕ) (i n k : ℕ) where
-  pub number-done : n ≤ i → i ≤ n → take i s ++ (numbered j k (slice i n s) ++ drop n s) ≡ s
-  unfolding numbered
-  number-done a b = let e : i ≡ n = omega arith in rw (e, slice_empty) (take-append-drop n s)
 
-  pub number-more : i < n → n ≤ length s → (v : ℕ) → v ≡ wordAt j k (get_or s i 0) →
-      take (i + 1) (set s i v) ++ (numbered j (k + countOf (get_or s i 0)) (slice (i + 1) n (set s i v)) ++ drop n (set s i v)) ≡ take i s ++ (numbered j k (slice i n s) ++ drop n s)
+-- the word i becomes v
+module _ (s : List ℕ) (i v : ℕ) (h : i < length s) where
+  pub number-more : (j k : ℕ) → v ≡ wordAt j k (get_or s i 0) → take (i + 1) (set s i v) ++ numbered j (k + countOf (get_or s i 0)) (drop (i + 1) (set s i v)) ≡ take i s ++ numbered j k (drop i s)
   unfolding numbered
-  number-more h l v e =
-      let z : i < i + 1 = omega arith in
-      rw (set-taken s i n v h l, set-left s i n v h l (i + 1) z, set-rest s i n v h l, slice-cons i n s 0 h l, add-one, e)
-      (append_snoc (take i s) (wordAt j k (get_or s i 0)) (numbered j (k + countOf (get_or s i 0)) (slice (suc i) n s) ++ drop n s))
+  number-more j k e = store-more s i v h (numbered j k) (numbered j (k + countOf (get_or s i 0))) (rw (drop_more s i 0 h, e))
 
   -- what is left of the counts
-  pub total-more : i < n → n ≤ length s → (v : ℕ) → countOf (get_or s i 0) + total (slice (i + 1) n (set s i v)) ≡ total (slice i n s)
+  pub total-more : countOf (get_or s i 0) + total (drop (i + 1) (set s i v)) ≡ total (drop i s)
   unfolding total
-  total-more h l v = let z : i < i + 1 = omega arith in rw (set-left s i n v h l (i + 1) z, slice-cons i n s 0 h l, add-one)
+  total-more = let z : i < i + 1 = omega arith in rw (drop-set-lt (i + 1) s i v z, drop_more s i 0 h)
+
+-- and none left
+pub number-done : (s : List ℕ) (i j k : ℕ) → length s ≤ i → take i s ++ numbered j k (drop i s) ≡ s
+unfolding numbered
+number-done s i j k h = rw (take_all i s h, drop_of_length-le s h, append-nil)
 
 -- ---- a word taken out: those above it moved down, the last zeroed
 
-pub cut-is : (s s' : List ℕ) (j n : ℕ) → j < n → n ≤ length s → length s' ≡ length s → Down s s' (j + 1) j (n - j - 1) → set s' (n - 1) 0 ≡ cutOut j n s
+pub cut-is : (s r : List ℕ) (j : ℕ) → j < length s → length r ≡ length s → r ≡ paste s j (drop (j + 1) s) (length s - (j + 1)) → set r (length r - 1) 0 ≡ cutOut j (length s) s
 unfolding cutOut
-cut-is s s' j n h l k d =
-    let a : j + (n - j - 1) ≡ n - 1 = omega arith in
-    let b : j + 1 + (n - j - 1) ≡ n = omega arith in
-    let c : n - j - 1 ≡ n - suc j = omega arith in
-    let z : n - 1 < length s' = omega arith in
-    let e : suc (n - 1) ≡ n = omega arith in
-    let front : take (n - 1) s' ≡ take j s ++ slice (suc j) n s = rw (a, c, add-one) at d.front ∙ rw (drop-take (suc j) n s) in
-    let back : drop n s' ≡ drop n s = rw b at d.back in
-    set_split s' (n - 1) 0 z ∙ rw (e, front, back) (append_assoc (take j s) (slice (suc j) n s) (0 ∷ drop n s))
+cut-is s r j h l e =
+    let n : ℕ = length s in
+    let a : j + (n - (j + 1)) ≡ n - 1 = omega arith in
+    let b : n - (j + 1) ≡ n - suc j = omega arith in
+    let z : n - 1 < length r = omega arith in
+    let k : suc (n - 1) ≡ n = omega arith in
+    let x : j ≤ n = omega arith in
+    let y : n - (j + 1) ≤ length (drop (j + 1) s) = simp length-drop (omega arith) in
+    let part : slice (suc j) n s ≡ take (n - (j + 1)) (drop (j + 1) s) = rw (drop-take (suc j) n s, b, add-one) in
+    let front : take (n - 1) r ≡ take j s ++ slice (suc j) n s = rw (part, e, ← a) (take-paste s j (drop (j + 1) s) (n - (j + 1)) x y) in
+    let back : drop n r ≡ drop n s = drop_of_length-le r (omega arith) ∙ sym (drop_of_length-le s (omega arith)) in
+    rw l (set_split r (n - 1) 0 z ∙ rw (k, front, back) (append_assoc (take j s) (slice (suc j) n s) (0 ∷ drop n s)))

@@ -28,6 +28,13 @@ pub record Holds (s i : List ℕ) (n e : ℕ) (ss : List SectionCode) : Type 0 w
 abbrev pub Sound : List ℕ → List ℕ → ℕ → ℕ → Type 0
 Sound s i n e = Holds s i n e (held s i n e)
 
+-- all the words are in use, and these are the sections that they hold
+abbrev pub Full : List ℕ → List ℕ → Type 0
+Full s i = Sound s i (length s) (length i)
+
+abbrev pub allHeld : List ℕ → List ℕ → List SectionCode
+allHeld s i = held s i (length s) (length i)
+
 -- the tables s' and i' hold the sections ss, where s and i held n sections and as many instructions; freed words are zero, the rest is as it was
 pub record Changed (s i s' i' : List ℕ) (n e : ℕ) (ss : List SectionCode) : Type 0 where
   pub sections : s' ≡ put 0 n (runWords 0 ss) s

@@ -3,9 +3,9 @@ use mathlib.Core.Path.{◌≡◌, refl, ap}
 use mathlib.Core.List.{List, [], ◌∷◌, ◌++◌}
 use Prim.Native.Nat.{ℕ, ◌+◌, ◌≤◌, ◌<◌}
 use native.Mathlib.Omega.{arith}
-use native.Mathlib.Numerals.{add-one}
-use lib.ListN.{length, get_or}
-use lib.Seq.{slice, slice-cons, slice_empty}
+use lib.ListN.{length, drop, get_or}
+use Rattle.std.proofs.Math.ListN.{drop_of_length-le}
+use Rattle.std.proofs.lemmas.List.{drop_more}
 use Rattle.rules.specs.Word.{wordIns}
 use Rattle.rules.specs.Replace.{ruleOf}
 use Rattle.words.specs.Told.{replacedOf}
@@ -36,9 +36,9 @@ pub sums-append : (f : ℕ → ℕ) (us vs : List ℕ) → sums f (us ++ vs) ≡
 sums-append f [] vs = rw sums-nil (omega arith)
 sums-append f (u ∷ us) vs = rw (sums-cons f u (us ++ vs), sums-cons f u us, sums-append f us vs) (omega arith)
 
-module _ (f : ℕ → ℕ) (t : List ℕ) (i e : ℕ) where
-  pub sums_end : e ≤ i → i ≤ e → sums f (slice i e t) ≡ 0
-  sums_end a b = let z : i ≡ e = omega arith in rw (z, slice_empty) (sums-nil f)
+module _ (f : ℕ → ℕ) (xs : List ℕ) (i : ℕ) where
+  pub sums_end : length xs ≤ i → sums f (drop i xs) ≡ 0
+  sums_end h = rw (drop_of_length-le xs h) (sums-nil f)
 
-  pub sums_at : i < e → e ≤ length t → sums f (slice i e t) ≡ f (get_or t i 0) + sums f (slice (i + 1) e t)
-  sums_at h l = rw (add-one, slice-cons i e t 0 h l) (sums-cons f _ _)
+  pub sums_at : i < length xs → sums f (drop i xs) ≡ f (get_or xs i 0) + sums f (drop (i + 1) xs)
+  sums_at h = rw (drop_more xs i 0 h) (sums-cons f _ _)

@@ -7,7 +7,7 @@ use native.Mathlib.Omega.{arith}
 use lib.Dec.{leb}
 use lib.IntN.{ℤ}
 use lib.ListN.{length, take, drop, get_or, length-append, length-map, length-drop, take-append-drop}
-use lib.Seq.{length-take-le}
+use lib.Seq.{take-length, length-take-le}
 use borrow.Author.Tests.{leb-true}
 use Rattle.rules.specs.Bits.{Res, refused, ok}
 use Rattle.rules.specs.Constants.{mostCount}
@@ -140,6 +140,13 @@ module _ (t : Tables) (u : Counts) where
 
     covers : total (take u.sections t.sections) ≡ length (take u.instrs t.instrs)
     covers = let s = sound t u h in whole-total t u s ∙ sym (length-take-le u.instrs t.instrs s.counts.instrs)
+
+    -- what the counted instructions add, told of the table that begins with them
+    pub adds-counted : (n s : ℕ) → AddsAll (take u.instrs t.instrs) (length (take u.instrs t.instrs)) n s → AddsAll t.instrs u.instrs n s
+    adds-counted n s a =
+        let l = length-take-le u.instrs t.instrs (sound t u h).counts.instrs in
+        let k = take-length (take u.instrs t.instrs) in
+        record { numbers = rw k at a.numbers; strings = rw k at a.strings; numbers-few = rw l at a.numbers-few; strings-few = rw l at a.strings-few }
 
     module _ (n s : ℕ) (a : AddsAll t.instrs u.instrs n s) where
       numbers-are : length (whole t u).1.numbers ≡ u.numbers + n

@@ -6,7 +6,7 @@ use Prim.Native.Nat.{ℕ, ◌+◌, ◌-◌, ◌≤◌, ◌<◌}
 use native.Mathlib.Omega.{arith}
 use native.Mathlib.Numerals.{add-one}
 use lib.IntN.{ℤ, pos}
-use lib.ListN.{length, take, drop, get_or, set, replicate, length-map, length-set, take-append-drop}
+use lib.ListN.{length, take, drop, get_or, set, replicate, length-map, length-set, get_or-append, take-append-drop}
 use lib.Seq.{slice, slice-cons, slice_empty, append_snoc, drop-drop, drop-set-lt, take-take, length-take-le}
 use Rattle.rules.specs.Bits.{isOne}
 use Rattle.rules.specs.Instr.{Instruction}
@@ -96,15 +96,15 @@ module _ (ss is : List ℕ) (ns : List ℤ) (ts : List ℕ) (n e k₀ s₀ p : �
           more-strings = r.more-strings;
         }
 
-    module _ (h : j < n) (c : ℕ) (c-is : c ≡ (wordRun (get_or ss' j 0)).count) where
-      same : get_or ss' j 0 ≡ get_or ss j 0
-      same = head-same j ss' ss r.section-rest
+    module _ (h : j < n) (word : ℕ) (word-at : word ≡ get_or ss' j 0) (c : ℕ) (c-is : c ≡ (wordRun word).count) where
+      same : word ≡ get_or ss j 0
+      same = word-at ∙ head-same j ss' ss r.section-rest
 
-      next : slice j n ss ≡ get_or ss' j 0 ∷ slice (j + 1) n ss
+      next : slice j n ss ≡ word ∷ slice (j + 1) n ss
       next = rw (same, add-one) (slice-cons j n ss 0 h o.sections)
 
-      counted : countOf (get_or ss' j 0) ≡ c
-      counted = sym (c-is ∙ count-is (get_or ss' j 0))
+      counted : countOf word ≡ c
+      counted = sym (c-is ∙ count-is word)
 
       left-now : a + (c + total (slice (j + 1) n ss)) ≡ e
       left-now = rw (next, total-cons, counted) at r.left
@@ -150,9 +150,9 @@ module _ (ss is : List ℕ) (ns : List ℤ) (ts : List ℕ) (n e k₀ s₀ p : �
 
       -- the section, by the words now
       abbrev here : SectionCode
-      here = record { lineStart = isOne (wordRun (get_or ss' j 0)).lineStart; instrs = map wordIns (slice a (a + c) is'); success = successOf (wordRun (get_or ss' j 0)) }
+      here = record { lineStart = isOne (wordRun word).lineStart; instrs = map wordIns (slice a (a + c) is'); success = successOf (wordRun word) }
 
-      here-is : sectionOf (get_or ss' j 0) (slice a e is) ≡ here
+      here-is : sectionOf word (slice a e is) ≡ here
       here-is = rw (← c-is, run-is)
 
       sections-are : readSections (slice j n ss) (slice a e is) ≡ here ∷ readSections (slice (j + 1) n ss) (slice (a + c) e is)
@@ -174,7 +174,7 @@ module _ (ss is : List ℕ) (ns : List ℤ) (ts : List ℕ) (n e k₀ s₀ p : �
       regs-now = rw sections-are at r.regs
 
       module _ (is'' : List ℕ) (ns'' : List ℤ) (ts'' : List ℕ) (b'' k'' s'' : ℕ) (d : Ran is' ns' ts' is'' ns'' ts'' p b k s b'' k'' s'' a (a + c)) (il : length is'' ≡ length is') (nl : length ns'' ≡ length ns') (tl : length ts'' ≡ length ts')
-          (l : Bool) (q : SectionOrLine) (m v : ℕ) (v-is : v ≡ runWord (runOf l q b m)) (l-is : l ≡ isOne (wordRun (get_or ss' j 0)).lineStart) (q-is : q ≡ successOf (wordRun (get_or ss' j 0))) (m-is : m ≡ b'' - b) where
+          (l : Bool) (q : SectionOrLine) (m v : ℕ) (v-is : v ≡ runWord (runOf l q b m)) (l-is : l ≡ isOne (wordRun word).lineStart) (q-is : q ≡ successOf (wordRun word)) (m-is : m ≡ b'' - b) where
         m-count : m ≡ length ran.0
         m-count = let x = d.count in omega arith
 
@@ -227,6 +227,10 @@ module _ (ss is : List ℕ) (ns : List ℤ) (ts : List ℕ) (n e k₀ s₀ p : �
               ns-len = nl ∙ r.ns-len;
               ts-len = tl ∙ r.ts-len;
             }
+
+-- a word of the counted ones, in the whole table
+pub inside : (ss items : List ℕ) (n j : ℕ) → n ≤ length ss → j < length (take n ss) → length items ≡ length (take n ss) → (j < n) × (get_or items j 0 ≡ get_or (items ++ drop n ss) j 0)
+inside ss items n j h k l = let e = length-take-le n ss h in let m : j < length items = omega arith in (omega arith, sym (get_or-append items (drop n ss) 0 j m))
 
 -- ---- the whole, with the freed words zeroed
 

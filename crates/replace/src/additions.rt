@@ -1,5 +1,5 @@
-// How many numbers and strings a replacement will add, by the answers of dup_replace_with. Asks that the counted words lie inside the table.
-ghost use Rattle.std.specs.Prelude.{◌≤◌, length};
+// How many numbers and strings a replacement will add, by the answers of dup_replace_with. Asks nothing.
+ghost use Rattle.std.specs.Prelude.{length};
 ghost use Rattle.replace.specs.Pass.{Adds, AddsAll};
 
 use words::instr::{Instruction, Replaced};
@@ -15,44 +15,28 @@ pub struct Added {
 fn adds(w: Instruction) -> Added
     ensures { Adds w.0 result.numbers result.strings }
 {
+    let none = Added {
+        numbers: 0,
+        strings: 0,
+    };
     match w.dup_replace_with() {
-        Replaced::Stays => Added {
-            numbers: 0,
-            strings: 0,
-        },
-        Replaced::Goes => Added {
-            numbers: 0,
-            strings: 0,
-        },
-        Replaced::Turns(_) => Added {
-            numbers: 0,
-            strings: 0,
-        },
-        Replaced::Number(_, _) => Added {
-            numbers: 1,
-            strings: 0,
-        },
-        Replaced::Blank(_) => Added {
-            numbers: 0,
-            strings: 1,
-        },
+        Replaced::Stays | Replaced::Goes | Replaced::Turns(_) => none,
+        Replaced::Number(_, _) => Added { numbers: 1, ..none },
+        Replaced::Blank(_) => Added { strings: 1, ..none },
     }
 }
 
-// What the first e instructions add.
-#[tactic(auto, using(crate::proofs::Adding::sums_end, crate::proofs::Adding::sums_at))]
-pub fn additions(t: &[u64], e: usize) -> Added
-    requires { e ≤ length t.now }
-    ensures { AddsAll t.now e result.numbers result.strings }
+// What the instructions add.
+#[tactic(auto, using(crate::proofs::Adding::sums_at))]
+pub fn additions(t: &[u64]) -> Added
+    ensures { AddsAll t.now (length t.now) result.numbers result.strings }
 {
-    let mut i: usize = 0;
     let mut numbers: usize = 0;
     let mut strings: usize = 0;
-    while i < e {
-        let a = adds(Instruction(t[i]));
+    for &w in t {
+        let a = adds(Instruction(w));
         numbers += a.numbers;
         strings += a.strings;
-        i += 1;
     }
     Added { numbers, strings }
 }

@@ -1,5 +1,6 @@
 // One instruction replaced: what becomes of it is written behind the instructions that are done, an added number or string behind the
-// registers. Shown equal to `replaceIns` of `rules`. Asks that there is room.
+// registers. Shown equal to `replaceIns` of `rules`. Asks that there is room. The three tables stay apart, here and in the files beside: a struct of
+// them would say of each function that it keeps those that it does not touch. A number that is shown to fit 16 bits is narrowed by `as`.
 ghost use Rattle.rules.specs.Constants.{mostCount};
 ghost use Rattle.std.specs.Prelude.{◌<◌, length};
 ghost use Rattle.replace.specs.Pass.{NumberAdded, BlankAdded, Spare, Stepped};
@@ -30,18 +31,18 @@ fn add_number(
 {
     let b = at.instructions;
     let n = at.numbers;
-    let copy = Instruction::num_num(Instruction::COPY_NUM, NumReg(n as u16), to);
+    let copy = Instruction::of_two(Instruction::COPY_NUM, NumReg(n as u16), to);
     instructions[b] = copy.0;
-    let value = number.0;
-    numbers[n] = value;
+    numbers[n] = number.0;
     At {
         instructions: b + 1,
         numbers: n + 1,
-        strings: at.strings,
+        ..at
     }
 }
 
-// An added empty string, and its copy into a register.
+// An added empty string, and its copy into a register. No one function with `add_number`: table, word, opcode and count are all others, and a
+// trait for them would be longer than both.
 #[tactic(auto, unfolding(rules::specs::Instr::kinds, rules::specs::Instr::table))]
 fn add_blank(
     instructions: &mut [u64],
@@ -55,14 +56,14 @@ fn add_blank(
 {
     let b = at.instructions;
     let s = at.strings;
-    let copy = Instruction::str_str(Instruction::COPY_STR, StrReg(s as u16), to);
+    let copy = Instruction::of_two(Instruction::COPY_STR, StrReg(s as u16), to);
     let text = StringWord::pack(characters, 0);
     instructions[b] = copy.0;
     strings[s] = text.0;
     At {
         instructions: b + 1,
-        numbers: at.numbers,
         strings: s + 1,
+        ..at
     }
 }
 
@@ -84,8 +85,7 @@ pub fn replace_instruction(
             instructions[b] = w.plain().0;
             At {
                 instructions: b + 1,
-                numbers: at.numbers,
-                strings: at.strings,
+                ..at
             }
         }
         Replaced::Goes => at,
@@ -93,8 +93,7 @@ pub fn replace_instruction(
             instructions[b] = v.0;
             At {
                 instructions: b + 1,
-                numbers: at.numbers,
-                strings: at.strings,
+                ..at
             }
         }
         Replaced::Number(z, to) => add_number(instructions, numbers, at, z, to),

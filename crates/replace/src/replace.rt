@@ -9,12 +9,12 @@ ghost use Rattle.tables.specs.Lent.{countsTold, tables, answerTold};
 use crate::additions::additions;
 use crate::replace_duplicates::replace_duplicates;
 use params::limits::MOST_COUNT;
-use params::refusal::{BREAKS_RULES, NO_ROOM};
+use params::refusal::Refusal;
 use tables::answer::Answer;
 use tables::check::check;
 use tables::counts::Counts;
 
-// Is there a slot for each of n words, and is n no more than a count may be?
+// Is there a slot for each of n words, and is n no more than a count may be? As tables test a count, in the order in which `replace` of `rules` asks.
 fn slots(n: usize, len: usize) -> bool
     ensures { result ≡ (leb n len && leb n mostCount) }
 {
@@ -34,23 +34,19 @@ pub fn replace(
     ensures { (answerTold result, tables sections.new instructions.new numbers.new strings.new pool.now names.now) ≡ Operations.replace (tables sections.old instructions.old numbers.old strings.old pool.now names.now) (countsTold c) }
 {
     if !check(c, sections, instructions, numbers, strings, pool, names) {
-        return Answer::Refused(BREAKS_RULES);
+        return Err(Refusal::BreaksRules);
     }
-    let added = additions(instructions, c.instructions);
+    let added = additions(&instructions[..c.instructions]);
     let fits = slots(c.numbers + added.numbers, numbers.len())
         & slots(c.strings + added.strings, strings.len());
     if !fits {
-        return Answer::Refused(NO_ROOM);
+        return Err(Refusal::NoRoom);
     }
     let done = replace_duplicates(c, sections, instructions, numbers, strings);
-    Answer::Done(Counts {
-        lines: c.lines,
-        sections: c.sections,
+    Ok(Counts {
         instructions: done.instructions,
         numbers: done.numbers,
         strings: done.strings,
-        characters: c.characters,
-        values: c.values,
-        names: c.names,
+        ..c
     })
 }

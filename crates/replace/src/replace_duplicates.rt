@@ -10,6 +10,7 @@ use tables::shift::zero;
 use words::section::SectionWord;
 
 // Each section's first instruction and count are written anew; what is done is handed back.
+// The tables are lent whole, as C lends them: the contract says that what stands behind the counted words stays.
 pub fn replace_duplicates(
     c: Counts,
     sections: &mut [u64],
@@ -29,17 +30,15 @@ pub fn replace_duplicates(
         strings: c.strings,
     };
     let mut from: usize = 0;
-    let mut i: usize = 0;
-    while i < n {
-        let w = SectionWord(sections[i]);
-        let to = from + w.count() as usize;
+    for word in &mut sections[..n] {
+        let w = SectionWord(*word);
+        let to = from + usize::from(w.count());
         let first = done.instructions;
         done = replace_run(instructions, numbers, strings, done, characters, from, to);
         let count = done.instructions - first;
         let v = SectionWord::pack(w.line_start(), w.success(), first as u16, count as u16);
-        sections[i] = v.0;
+        *word = v.0;
         from = to;
-        i += 1;
     }
     zero(instructions, done.instructions, e);
     done

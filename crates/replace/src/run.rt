@@ -1,5 +1,5 @@
 // The instructions of one section replaced in place, replace_duplicates of yogi's SectionCode. Shown equal to `replaceCode` of `rules`.
-// Asks that there is room.
+// Asks that there is room. It reads at i and writes behind what is done, so it goes by index.
 ghost use Rattle.replace.specs.Pass.{Open, Ran};
 
 use crate::instruction::{At, replace_instruction};
@@ -19,12 +19,10 @@ pub fn replace_run(
     requires { Open instructions.old numbers.old strings.old at.instructions at.numbers at.strings from to }
     ensures { Ran instructions.old numbers.old strings.old instructions.new numbers.new strings.new characters at.instructions at.numbers at.strings result.instructions result.numbers result.strings from to }
 {
-    let mut i = from;
     let mut done = at;
-    while i < to {
+    for i in from..to {
         let w = Instruction(instructions[i]);
         done = replace_instruction(instructions, numbers, strings, done, characters, w);
-        i += 1;
     }
     done
 }

@@ -2,7 +2,7 @@
 use mathlib.Core.Path.{◌≡◌, refl, sym, ◌∙◌}
 use mathlib.Core.Bool.{Bool, true, false}
 use mathlib.Core.List.{List, [], ◌∷◌, ◌++◌, map}
-use Prim.Native.Nat.{ℕ, zero, suc, ◌-◌, ◌^◌, ◌<◌, ◌≤◌, max}
+use Prim.Native.Nat.{ℕ, suc, ◌-◌, ◌^◌, ◌<◌, ◌≤◌, max}
 use native.Mathlib.Omega.{arith}
 use native.Mathlib.Nat.{max-eq_left, max-eq_right, sub_self}
 use lib.IntN.{ℤ, pos}
@@ -97,10 +97,6 @@ put-over z n m ws t t' a b c d =
     let e : n - m ≡ 0 = omega arith in
     let f : max n m ≡ m = max-eq_right c in
     rw (b, e, f) (sym (take-append-drop m t') ∙ rw (a, d))
-
-pub put-same : (n : ℕ) (ws t t' : List ℕ) → length ws ≤ n → drop n t ≡ drop n t' → put 0 n ws t ≡ put 0 n ws t'
-unfolding put
-put-same n ws t t' h e = let z : max n (length ws) ≡ n = max-eq_left h in rw (z, e)
 
 -- strings that keep the rules are written as they were
 spare-zero : (u : Counts) (w : ℕ) → spanFits u w ≡ true → spanSpare w ≡ 0

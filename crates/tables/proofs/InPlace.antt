@@ -1,11 +1,16 @@
 -- Words of a table changed in place, one turn after the other: what is done, then what is left to do, is all that was to do. Assumes nothing.
 use mathlib.Core.Path.{◌≡◌, sym, ap, ◌∙◌}
-use mathlib.Core.List.{List, [], ◌∷◌, ◌++◌, map, append_assoc}
+use mathlib.Core.List.{List, [], ◌∷◌, ◌++◌, map, append-nil}
 use Prim.Native.Nat.{ℕ, zero, suc, ◌+◌, ◌-◌, ◌<◌, ◌≤◌}
 use native.Mathlib.Omega.{arith}
 use native.Mathlib.Numerals.{add-one, unary_clauses}
 use lib.ListN.{length, take, drop, get_or, set, replicate, length-drop}
-use lib.Seq.{slice, slice-cons, take-suc-set, take-set-lt, drop-set-lt, append_snoc, take-suc, get_or-drop, drop-drop, take-nil}
+use Rattle.std.proofs.Math.ListN.{drop_of_length-le}
+use Rattle.std.proofs.lemmas.List.{drop_more}
+use lib.Seq.{take_all, paste, take-suc-set, drop-set-lt, append_snoc, get_or-drop, drop-drop, take-nil}
+use borrow.Rule.Slice.PartMut.{put_mid}
+use Rattle.std.specs.List.{copy_within}
+use Rattle.std.proofs.lemmas.List.Edits.{take-paste, drop-paste}
 use Rattle.tables.specs.Runs.{Down}
 
 -- a store at i below n
@@ -13,28 +18,26 @@ module _ {A : Type 0} (s : List A) (i n : ℕ) (v : A) (h : i < n) (l : n ≤ le
   pub set-taken : take (i + 1) (set s i v) ≡ take i s ++ (v ∷ [])
   set-taken = let z : i < length s = omega arith in rw add-one (take-suc-set s i v z)
 
-  pub set-left : (j : ℕ) → i < j → slice j n (set s i v) ≡ slice j n s
-  set-left j k = rw (take-set-lt n s i v h, drop-set-lt j (take n s) i v k)
-
   pub set-rest : drop n (set s i v) ≡ drop n s
   set-rest = drop-set-lt n s i v h
 
--- ---- each word by a function
+-- ---- the words of a slice changed one after the other
 
-module _ (g : ℕ → ℕ) (s : List ℕ) (i n : ℕ) where
-  pub map-more : i < n → n ≤ length s → (v : ℕ) → v ≡ g (get_or s i 0) → take (i + 1) (set s i v) ++ (map g (slice (i + 1) n (set s i v)) ++ drop n (set s i v)) ≡ take i s ++ (map g (slice i n s) ++ drop n s)
-  map-more h l v e =
+module _ (s : List ℕ) (i v : ℕ) (h : i < length s) where
+  -- a store at i, where v and what g leaves to do make what f left
+  pub store-more : (f g : List ℕ → List ℕ) → v ∷ g (drop (i + 1) s) ≡ f (drop i s) → take (i + 1) (set s i v) ++ g (drop (i + 1) (set s i v)) ≡ take i s ++ f (drop i s)
+  store-more f g e =
       let z : i < i + 1 = omega arith in
-      rw (set-taken s i n v h l, set-left s i n v h l (i + 1) z, set-rest s i n v h l, slice-cons i n s 0 h l, add-one, e) (append_snoc (take i s) (g (get_or s i 0)) (map g (slice (suc i) n s) ++ drop n s))
+      let t : take (i + 1) (set s i v) ≡ take i s ++ (v ∷ []) = rw add-one (take-suc-set s i v h) in
+      rw (t, drop-set-lt (i + 1) s i v z) (append_snoc (take i s) v (g (drop (i + 1) s)) ∙ ap (λ (x : List ℕ). take i s ++ x) e)
 
--- ---- zeros
+  -- each word by a function
+  pub map-more : (g : ℕ → ℕ) → v ≡ g (get_or s i 0) → take (i + 1) (set s i v) ++ map g (drop (i + 1) (set s i v)) ≡ take i s ++ map g (drop i s)
+  map-more g e = store-more (map g) (map g) (rw (drop_more s i 0 h, e))
 
--- whatever a zero is there
-module _ {A : Type 0} (z : A) (s : List A) (i n : ℕ) where
-  pub zero_more : i < n → n ≤ length s → take (i + 1) (set s i z) ++ (replicate (n - (i + 1)) z ++ drop n (set s i z)) ≡ take i s ++ (replicate (n - i) z ++ drop n s)
-  zero_more h l =
-      let e : n - i ≡ suc (n - (i + 1)) = omega arith in
-      rw (set-taken s i n z h l, set-rest s i n z h l, e) (append_snoc (take i s) z (replicate (n - (i + 1)) z ++ drop n s))
+-- and none left
+pub map-done : (g : ℕ → ℕ) (s : List ℕ) (i : ℕ) → length s ≤ i → take i s ++ map g (drop i s) ≡ s
+map-done g s i h = rw (take_all i s h, drop_of_length-le s h, append-nil)
 
 -- ---- lists that agree from a place on
 
@@ -44,14 +47,11 @@ drop-take {A} (suc x) zero l = let z : 0 - suc x ≡ 0 = omega arith in rw z
 drop-take (suc x) (suc y) [] = rw take-nil
 drop-take (suc x) (suc y) (a ∷ l) = simp unary_clauses (drop-take x y l)
 
--- they agree from any later place on, in any slice there, and there
+-- they agree from any later place on, and there
 pub drop-later : {A : Type 0} (x y : ℕ) (l l' : List A) → drop x l ≡ drop x l' → x ≤ y → drop y l ≡ drop y l'
 drop-later x y l l' e h =
     let z : y ≡ x + (y - x) = omega arith in
     rw z (sym (drop-drop (y - x) x l) ∙ ap (drop (y - x)) e ∙ drop-drop (y - x) x l')
-
-pub slice-same : {A : Type 0} (x y : ℕ) (l l' : List A) → drop x l ≡ drop x l' → slice x y l ≡ slice x y l'
-slice-same x y l l' e = drop-take x y l ∙ ap (take (y - x)) e ∙ sym (drop-take x y l')
 
 head-is : (x : ℕ) (l : List ℕ) → get_or l x 0 ≡ get_or (drop x l) 0 0
 head-is x l = let z : x ≡ x + 0 = omega arith in ap (λ (k : ℕ). get_or l k 0) z ∙ sym (get_or-drop x l 0 0)
@@ -59,17 +59,19 @@ head-is x l = let z : x ≡ x + 0 = omega arith in ap (λ (k : ℕ). get_or l k 
 pub head-same : (x : ℕ) (l l' : List ℕ) → drop x l ≡ drop x l' → get_or l x 0 ≡ get_or l' x 0
 head-same x l l' e = head-is x l ∙ ap (λ (y : List ℕ). get_or y 0 0) e ∙ sym (head-is x l')
 
--- ---- words moved down
+-- ---- words moved down, and the part i..n zeroed
 
-module _ (l m : List ℕ) (a b i : ℕ) (h : b ≤ a) (k : a + i < length m) (n : length m ≡ length l) (d : Down l m a b i) where
-  pub down-more : Down l (set m (b + i) (get_or m (a + i) 0)) a b (i + 1)
-  down-more =
-      let z : b + (i + 1) ≡ suc (b + i) = omega arith in
-      let x : b + i < length m = omega arith in
-      let y : i < length (drop a l) = simp length-drop (omega arith) in
-      let q : b + i < a + (i + 1) = omega arith in
-      let r : a + i ≤ a + (i + 1) = omega arith in
+module _ {A : Type 0} (l l' : List A) (a b c : ℕ) (h : b ≤ a) (k : a + c ≤ length l) (e : l' ≡ copy_within l a (a + c) b) where
+  pub down_copied : Down l l' a b c
+  down_copied =
+      let n : a + c - a ≡ c = omega arith in
+      let x : b ≤ length l = omega arith in
+      let y : c ≤ length (drop a l) = simp length-drop (omega arith) in
+      let z : b + c ≤ a + c = omega arith in
       record {
-        front = rw (z, take-suc-set m (b + i) (get_or m (a + i) 0) x, d.front, add-one, take-suc (drop a l) i 0 y, get_or-drop, head-same (a + i) m l d.back, append_assoc);
-        back = rw (drop-set-lt (a + (i + 1)) m (b + i) (get_or m (a + i) 0) q) (drop-later (a + i) (a + (i + 1)) m l d.back r);
+        front = rw (e, n) (take-paste l b (drop a l) c x y);
+        back = rw (e, n) (drop-later (b + c) (a + c) (paste l b (drop a l) c) l (drop-paste l b (drop a l) c x y) z);
       }
+
+pub zeroed : {A : Type 0} (z : A) (s ys : List A) (i n : ℕ) → i ≤ n → ys ≡ replicate (n - i) z → put_mid i (n - i) s ys ≡ take i s ++ (replicate (n - i) z ++ drop n s)
+zeroed z s ys i n h e = let k : i + (n - i) ≡ n = omega arith in rw (e, drop-drop (n - i) i s, k)

@@ -1,30 +1,33 @@
 -- A walk over the counted words of a table: what the words from i on answer, by word i. Assumes nothing.
 use mathlib.Core.Path.{◌≡◌, refl}
-use mathlib.Core.Bool.{Bool, true, false, cond}
-use mathlib.Core.List.{List}
+use mathlib.Core.Bool.{Bool, true, false, cond, ◌&&◌}
+use mathlib.Core.List.{List, [], ◌∷◌}
 use Prim.Native.Nat.{ℕ, suc, ◌+◌, ◌<◌, ◌≤◌}
-use native.Mathlib.Omega.{arith}
 use native.Mathlib.Numerals.{add-one}
 use lib.Dec.{eqb}
-use lib.ListN.{length, get_or}
-use lib.Seq.{slice, slice-cons, slice_empty}
+use lib.ListN.{length, drop, get_or}
+use Rattle.std.proofs.Math.ListN.{drop_of_length-le}
+use Rattle.std.proofs.lemmas.List.{drop_more}
+use Rattle.std.specs.List.{list_all}
 use Rattle.rules.specs.Tables.{Counts, allb, runsFit}
 use Rattle.tables.specs.Rules.{sectionFits}
 use Rattle.tables.specs.Runs.{countOf}
-use Rattle.tables.proofs.Read.{all-nil, all-cons, runs-nil, runs-cons}
+use Rattle.tables.proofs.Read.{runs-nil, runs-cons}
 
-module _ (p : ℕ → Bool) (t : List ℕ) (i n : ℕ) where
-  pub all_done : n ≤ i → i ≤ n → allb p (slice i n t) ≡ true
-  all_done a b = let e : i ≡ n = omega arith in rw (e, slice_empty) (all-nil p)
-
-  pub all_at : i < n → n ≤ length t → allb p (slice i n t) ≡ cond (p (get_or t i 0)) (allb p (slice (i + 1) n t)) false
-  all_at h k = rw (slice-cons i n t 0 h k, add-one) (all-cons p (get_or t i 0) (slice (suc i) n t) _ refl)
+-- all, as the library has it
+pub all_is : {A : Type 0} (p : A → Bool) (xs : List A) → list_all p xs ≡ allb p xs
+unfolding allb
+all_is p [] = refl
+all_is p (x ∷ xs) = by (p x) (all_is p xs)
+  where
+    by : (b : Bool) → list_all p xs ≡ allb p xs → (b && list_all p xs) ≡ elim b [ false ↦ false | true ↦ allb p xs ]
+    by true e = e
+    by false e = refl
 
 -- sections, with the instruction k at which the next run begins
-module _ (u : Counts) (t : List ℕ) (i k n : ℕ) where
-  pub runs_done : n ≤ i → i ≤ n → runsFit u i k (slice i n t) ≡ eqb k u.instrs
-  runs_done a b = let e : i ≡ n = omega arith in rw (e, slice_empty) (runs-nil u n k)
+module _ (u : Counts) (ws : List ℕ) (i k : ℕ) where
+  pub runs_done : length ws ≤ i → runsFit u i k (drop i ws) ≡ eqb k u.instrs
+  runs_done h = rw (drop_of_length-le ws h) (runs-nil u i k)
 
-  pub runs_at : i < n → n ≤ length t →
-      runsFit u i k (slice i n t) ≡ cond (sectionFits u i k (get_or t i 0)) (runsFit u (i + 1) (k + countOf (get_or t i 0)) (slice (i + 1) n t)) false
-  runs_at h l = rw (slice-cons i n t 0 h l, add-one) (runs-cons u i k (get_or t i 0) (slice (suc i) n t) _ refl)
+  pub runs_at : i < length ws → runsFit u i k (drop i ws) ≡ cond (sectionFits u i k (get_or ws i 0)) (runsFit u (i + 1) (k + countOf (get_or ws i 0)) (drop (i + 1) ws)) false
+  runs_at h = rw (drop_more ws i 0 h, add-one) (runs-cons u i k (get_or ws i 0) (drop (suc i) ws) _ refl)

@@ -26,6 +26,6 @@ unfoldable pub held : List ℕ → List ℕ → ℕ → ℕ → List SectionCode
 held ss is n e = readSections (take n ss) (take e is)
 
 -- c words at a moved down to b: what stands before and behind
-pub record Down (l l' : List ℕ) (a b c : ℕ) : Type 0 where
+pub record Down {A : Type 0} (l l' : List A) (a b c : ℕ) : Type 0 where
   pub front : take (b + c) l' ≡ take b l ++ take c (drop a l)
   pub back : drop (a + c) l' ≡ drop (a + c) l

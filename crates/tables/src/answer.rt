@@ -1,9 +1,5 @@
-// What a pass over a machine answers. Nothing is shown here; specs/Lent says what an answer is in the words of `rules`.
+// What a pass over a machine answers: the counts of the machine that is left, or a refusal. specs/Lent says it in the words of `rules`.
 use crate::counts::Counts;
+use params::refusal::Refusal;
 
-// The counts of the machine that is left, or the number of a refusal.
-#[derive(Clone, Copy)]
-pub enum Answer {
-    Done(Counts),
-    Refused(u64),
-}
+pub type Answer = Result<Counts, Refusal>;

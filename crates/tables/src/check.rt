@@ -1,5 +1,5 @@
-// The check of a machine's words: one walk over the tables, shown equal to `fits` of `rules`. Assumes nothing; the loops ask that the
-// counts keep the rules.
+// The check of a machine's words: each word once, shown equal to `fits` of `rules`. Assumes nothing; the test of each table asks that the counted
+// words lie inside it.
 ghost use Rattle.rules.specs.Constants.{mostCount};
 ghost use Rattle.std.specs.Prelude.{◌≡◌, ◌≤◌, length, take};
 ghost use Rattle.rules.specs.Tables.{allb, insFits, runsFit, spanFits, nameFits, fits};
@@ -11,19 +11,13 @@ use words::instr::Instruction;
 use words::section::SectionWord;
 use words::text::StringWord;
 
-#[tactic(auto, using(crate::proofs::Walks::all_done, crate::proofs::Walks::all_at))]
 fn instructions_fit(c: Counts, t: &[u64]) -> bool
     requires { c.instructions ≤ length t.now }
     ensures { result ≡ allb (insFits (countsTold c)) (take c.instructions t.now) }
 {
-    let mut i: usize = 0;
-    while i < c.instructions {
-        if !instruction_fits(c, Instruction(t[i])) {
-            return false;
-        }
-        i += 1;
-    }
-    true
+    t[..c.instructions]
+        .iter()
+        .all(|&w| instruction_fits(c, Instruction(w)))
 }
 
 // Runs stand end to end from 0 and cover the counted instructions.
@@ -32,50 +26,34 @@ fn sections_fit(c: Counts, t: &[u64]) -> bool
     requires { (c.sections ≤ length t.now) × (c.sections ≤ mostCount) }
     ensures { result ≡ runsFit (countsTold c) 0 0 (take c.sections t.now) }
 {
-    let mut i: usize = 0;
     let mut k: usize = 0;
-    while i < c.sections {
-        let w = SectionWord(t[i]);
+    for (i, &word) in t[..c.sections].iter().enumerate() {
+        let w = SectionWord(word);
         if !section_fits(c, i, k, w) {
             return false;
         }
-        k += w.count() as usize;
-        i += 1;
+        k += usize::from(w.count());
     }
     k == c.instructions
 }
 
-#[tactic(auto, using(crate::proofs::Walks::all_done, crate::proofs::Walks::all_at))]
 fn strings_fit(c: Counts, t: &[u32]) -> bool
     requires { c.strings ≤ length t.now }
     ensures { result ≡ allb (spanFits (countsTold c)) (take c.strings t.now) }
 {
-    let mut i: usize = 0;
-    while i < c.strings {
-        if !string_fits(c, StringWord(t[i])) {
-            return false;
-        }
-        i += 1;
-    }
-    true
+    t[..c.strings]
+        .iter()
+        .all(|&w| string_fits(c, StringWord(w)))
 }
 
-#[tactic(auto, using(crate::proofs::Walks::all_done, crate::proofs::Walks::all_at))]
 fn names_fit(c: Counts, t: &[u16]) -> bool
     requires { c.names ≤ length t.now }
     ensures { result ≡ allb (nameFits (countsTold c)) (take c.names t.now) }
 {
-    let mut i: usize = 0;
-    while i < c.names {
-        if !name_fits(c, t[i]) {
-            return false;
-        }
-        i += 1;
-    }
-    true
+    t[..c.names].iter().all(|&n| name_fits(c, n))
 }
 
-// Do the words keep the rules?
+// Do the words keep the rules? Six slices, and no struct of them: a caller lends some by `&mut` and would lay them into one for this call alone.
 #[tactic(auto, using(crate::proofs::Sound::counted), unfolding(rules::specs::Tables::fits, rules::specs::Tables::wordsFit))]
 pub fn check(
     c: Counts,

@@ -6,8 +6,8 @@ ghost use Rattle.tables.specs.Lent.{countsTold, tables};
 
 use params::limits::{MOST_COUNT, MOST_LINES};
 
-// Lines, how much of each lent table is in use, and the value registers.
-#[derive(Clone, Copy)]
+// Lines, how much of each lent table is in use, and the value registers. Tests of a word take it beside the word: as methods they would read no shorter.
+#[derive(Clone, Copy, PartialEq, Eq)]
 pub struct Counts {
     pub lines: usize,
     pub sections: usize,
@@ -24,10 +24,11 @@ impl Counts {
     pub fn with_code(self, sections: usize, instructions: usize) -> Counts
         ensures { result ≡ record self { sections = sections; instructions = instructions } }
     {
-        let mut c = self;
-        c.sections = sections;
-        c.instructions = instructions;
-        c
+        Counts {
+            sections,
+            instructions,
+            ..self
+        }
     }
 }
 

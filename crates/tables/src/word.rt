@@ -18,7 +18,7 @@ use words::text::StringWord;
 fn field_fits(c: Counts, kind: Kind, n: u16) -> bool
     ensures { result ≡ fieldFits (countsTold c) (kindTold kind) n }
 {
-    let n = n as usize;
+    let n = usize::from(n);
     match kind {
         Kind::Unused => n == 0,
         Kind::Num => n < c.numbers,
@@ -32,7 +32,7 @@ fn field_fits(c: Counts, kind: Kind, n: u16) -> bool
 pub fn instruction_fits(c: Counts, w: Instruction) -> bool
     ensures { result ≡ insFits (countsTold c) w.0 }
 {
-    let Fields::Are(fst, snd, thd, _) = Instruction::fields(w.op()) else {
+    let Some(Fields(fst, snd, thd, _)) = Instruction::fields(w.op()) else {
         return false;
     };
     (w.spare() == 0)
@@ -48,19 +48,15 @@ fn success_fits(c: Counts, w: SectionWord) -> bool
 {
     match w.success() {
         SectionOrLine::Unfixed => true,
-        SectionOrLine::Section(s) => (s.0 as usize) < c.sections,
-        SectionOrLine::Line(n) => (n.0 as usize) < c.numbers,
+        SectionOrLine::Section(s) => usize::from(s.0) < c.sections,
+        SectionOrLine::Line(n) => usize::from(n.0) < c.numbers,
     }
 }
 
 pub fn is_fixed(w: SectionWord) -> bool
     ensures { result ≡ isFixed (successOf (wordRun w.0)) }
 {
-    match w.success() {
-        SectionOrLine::Unfixed => false,
-        SectionOrLine::Section(_) => true,
-        SectionOrLine::Line(_) => true,
-    }
+    w.success() != SectionOrLine::Unfixed
 }
 
 // Line starts: sections 0 to L-1; a later section only if it is unfixed and has no instructions.
@@ -78,7 +74,7 @@ fn start_fits(c: Counts, i: usize, w: SectionWord) -> bool
 pub fn section_fits(c: Counts, i: usize, k: usize, w: SectionWord) -> bool
     ensures { result ≡ sectionFits (countsTold c) i k w.0 }
 {
-    (w.spare() == 0) & (w.first() as usize == k) & success_fits(c, w) & start_fits(c, i, w)
+    (w.spare() == 0) & (usize::from(w.first()) == k) & success_fits(c, w) & start_fits(c, i, w)
 }
 
 // A string's word lies inside the counted pool.
@@ -86,7 +82,7 @@ pub fn section_fits(c: Counts, i: usize, k: usize, w: SectionWord) -> bool
 pub fn string_fits(c: Counts, w: StringWord) -> bool
     ensures { result ≡ spanFits (countsTold c) w.0 }
 {
-    (w.spare() == 0) & (w.start() as usize + w.length() as usize <= c.characters)
+    (w.spare() == 0) & (usize::from(w.start()) + usize::from(w.length()) <= c.characters)
 }
 
 // A name's register is below the count, or it has none.
@@ -94,5 +90,5 @@ pub fn string_fits(c: Counts, w: StringWord) -> bool
 pub fn name_fits(c: Counts, n: u16) -> bool
     ensures { result ≡ nameFits (countsTold c) n }
 {
-    (n == MARK) | ((n as usize) < c.values)
+    (n == MARK) | (usize::from(n) < c.values)
 }

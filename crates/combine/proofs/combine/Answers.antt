@@ -1,5 +1,5 @@
 -- Each way out is one of Whole.
-use Rattle.std.proofs.Common.{sym, rules}
+use Rattle.std.proofs.Common.{sym, rules, length-take-le}
 use Rattle.combine.proofs.Whole.{combine-12, keeps, few-sections, combine-14, combine-15, no-links-back, combine-done}
 use Rattle.combine.proofs.Again.{fits-sound}
 use Rattle.combine.proofs.combine.Goals as goal
@@ -7,14 +7,20 @@ use Rattle.combine.proofs.combine.Goals as goal
 pub returns-then-not-check : goal.returns-then-not-check
 returns-then-not-check c = combine-12 _ _ (sym c.if-not-check.ensures)
 
-pub all_fixed-requires : goal.all_fixed-requires
-all_fixed-requires c = few-sections _ _ (sym c.if-not-check.ensures)
+pub slice_bounds-all_fixed-end : goal.slice_bounds-all_fixed-end
+slice_bounds-all_fixed-end c = few-sections _ _ (sym c.if-not-check.ensures)
+
+pub slice_bounds-all_fixed-end-2 : goal.slice_bounds-all_fixed-end-2
+slice_bounds-all_fixed-end-2 c = sym (length-take-le _ _ (few-sections _ _ (sym c.if-not-check.ensures)))
 
 pub returns-then-not-all_fixed : goal.returns-then-not-all_fixed
 returns-then-not-all_fixed c = combine-14 _ _ (sym c.if-not-check.ensures) c.if-not-all_fixed.ensures
 
-pub all_ahead-requires : goal.all_ahead-requires
-all_ahead-requires c = few-sections _ _ (sym c.if-not-check.ensures)
+pub slice_bounds-all_ahead-end : goal.slice_bounds-all_ahead-end
+slice_bounds-all_ahead-end c = few-sections _ _ (sym c.if-not-check.ensures)
+
+pub slice_bounds-all_ahead-end-2 : goal.slice_bounds-all_ahead-end-2
+slice_bounds-all_ahead-end-2 c = sym (length-take-le _ _ (few-sections _ _ (sym c.if-not-check.ensures)))
 
 pub returns-then-not-all_ahead : goal.returns-then-not-all_ahead
 returns-then-not-all_ahead c = combine-15 _ _ (sym c.if-not-check.ensures) c.if-not-all_fixed.ensures c.if-not-all_ahead.ensures

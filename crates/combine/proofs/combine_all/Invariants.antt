@@ -3,8 +3,8 @@ use Rattle.std.proofs.Common.{◌-◌}
 use Rattle.combine.proofs.Loop.{Going}
 use Rattle.combine.proofs.combine_all.Given as goal
 
-abbrev pub invariant-loop-s1 : goal.invariant-loop-s1
-invariant-loop-s1 l = Going l.fn.sections l.fn.instructions l.n l.e l.sections l.instructions l.left l.s1
+abbrev pub invariant-loop-left : goal.invariant-loop-left
+invariant-loop-left l = Going l.fn.sections l.fn.instructions l.n l.e l.sections l.instructions l.left l.s1
 
-abbrev pub decreases-loop-s1 : goal.decreases-loop-s1
-decreases-loop-s1 l = l.left - l.s1
+abbrev pub decreases-loop-left : goal.decreases-loop-left
+decreases-loop-left l = l.left - l.s1

@@ -3,4 +3,4 @@ use Rattle.clean.proofs.Whole.{renumbered}
 use Rattle.clean.proofs.remove_unfixed_sections.renumber.Goals as goal
 
 pub returns : goal.returns
-returns c = renumbered _ _ _ _ c.requires.0 c.requires.1 _ _ c.number-kept.ensures _ _ c.retarget_instructions.ensures c.retarget_sections.ensures
+returns c = renumbered _ _ c.requires _ _ c.number-kept.ensures _ _ c.retarget_instructions.ensures c.retarget_sections.ensures

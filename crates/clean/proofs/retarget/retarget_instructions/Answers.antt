@@ -1,15 +1,16 @@
--- One more word leaves the wanted table.
-use Rattle.std.proofs.Common.{◌≤◌, length, ◌∙◌, arith}
-use Rattle.std.proofs.Math.ListN.{length-set}
-use Rattle.tables.proofs.InPlace.{map-more}
+-- One more word is retargeted; at the end, all of them.
+use Rattle.std.proofs.Common.{◌<◌, ◌≤◌, ◌∙◌, length, sym, arith}
+use Rattle.tables.proofs.InPlace.{map-more, map-done}
 use Rattle.clean.proofs.retarget.retarget_instructions.Goals as goal
 
-pub loop-i-preserved : goal.loop-i-preserved
-loop-i-preserved c =
-    let l = c.loop-i in
-    let len : c.args.e ≤ length l.instructions = omega arith in
-    record {
-      within = omega arith;
-      same-length = simp length-set l.invariant.same-length;
-      rest = map-more _ l.instructions l.i c.args.e c.loop-i-test.true len _ c.with_jump-v.ensures ∙ l.invariant.rest;
-    }
+pub loop-w-preserved : goal.loop-w-preserved
+loop-w-preserved c =
+    let l = c.loop-w in
+    let h : l.w-index < length l.instructions = omega arith in
+    map-more l.instructions l.w-index _ h _ c.with_jump.ensures ∙ l.invariant
+
+pub returns : goal.returns
+returns c =
+    let l = c.loop-w in
+    let h : length l.instructions ≤ l.w-index = omega arith in
+    sym (map-done _ l.instructions l.w-index h) ∙ l.invariant

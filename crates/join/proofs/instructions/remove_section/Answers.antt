@@ -1,11 +1,11 @@
 -- One more word has its jump changed.
-use Rattle.std.proofs.Common.{◌≤◌, length, ◌∙◌, arith}
-use Rattle.tables.proofs.InPlace.{map-more}
+use Rattle.std.proofs.Common.{◌<◌, length, ◌∙◌, arith}
 use Rattle.join.specs.Passes.{jumpFallen}
+use Rattle.tables.proofs.InPlace.{map-more}
 use Rattle.join.proofs.instructions.remove_section.Goals as goal
 
-pub loop-i-preserved : goal.loop-i-preserved
+pub loop-w-preserved : goal.loop-w-preserved
 unfolding jumpFallen
-loop-i-preserved c =
-    let n : c.args.e ≤ length c.loop-i.t = omega arith in
-    (omega arith, map-more (jumpFallen c.args.s2.0) _ _ _ c.loop-i-test.true n _ c.remove_section.ensures ∙ c.loop-i.invariant.1)
+loop-w-preserved c =
+    let h : c.loop-w.w-index < length c.loop-w.w-items = omega arith in
+    map-more _ _ _ h (jumpFallen c.args.s2.0) c.remove_section.ensures ∙ c.loop-w.invariant

@@ -1,8 +1,6 @@
--- Three reversals exchange two parts.
-use Rattle.std.proofs.Common.{ap, ◌∙◌}
-use Rattle.join.specs.Parts.{turned}
-use Rattle.join.proofs.Turns.{rotated}
+-- The part turned by the library is the two parts exchanged.
+use Rattle.join.proofs.Cuts.{turned-is}
 use Rattle.join.proofs.instructions.rotate.Goals as goal
 
 pub returns : goal.returns
-returns c = c.reverse-3.ensures ∙ ap (turned _ _) (c.reverse-2.ensures ∙ ap (turned _ _) c.reverse.ensures) ∙ rotated _ _ _ _ c.requires.0 c.requires.1 c.requires.2
+returns c = turned-is _ _ _ _ _ c.requires.0 c.requires.1 c.rotate_left.ensures.after

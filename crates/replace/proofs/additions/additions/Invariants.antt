@@ -1,17 +1,12 @@
--- What is counted, and what the words from i on add, is all that is added.
-use Rattle.std.proofs.Common.{◌≡◌, ◌+◌, ◌-◌, ◌≤◌, take}
-use Rattle.std.proofs.Math.Seq.{slice}
+-- What is counted, and what the words from here on add, is all that is added.
+use Rattle.std.proofs.Common.{◌≡◌, ◌+◌, ◌≤◌, drop}
 use Rattle.replace.specs.Pass.{numberOf, stringOf, sums}
 use Rattle.replace.proofs.additions.additions.Given as goal
 
-abbrev pub invariant-loop-i : goal.invariant-loop-i
-invariant-loop-i l = record {
-  within : l.i ≤ l.e;
-  numbers-few : l.numbers ≤ l.i;
-  strings-few : l.strings ≤ l.i;
-  numbers : l.numbers + sums numberOf (slice l.i l.e l.t) ≡ sums numberOf (take l.e l.t);
-  strings : l.strings + sums stringOf (slice l.i l.e l.t) ≡ sums stringOf (take l.e l.t);
+abbrev pub invariant-loop-w : goal.invariant-loop-w
+invariant-loop-w l = record {
+  numbers-few : l.numbers ≤ l.w-index;
+  strings-few : l.strings ≤ l.w-index;
+  numbers : l.numbers + sums numberOf (drop l.w-index l.t) ≡ sums numberOf l.t;
+  strings : l.strings + sums stringOf (drop l.w-index l.t) ≡ sums stringOf l.t;
 }
-
-abbrev pub decreases-loop-i : goal.decreases-loop-i
-decreases-loop-i l = l.e - l.i
