@@ -6,19 +6,15 @@ use Rattle.rules.specs.Opcode as Op
 use Rattle.rules.specs.Instr.{ins₁, ins₂, ins₃, canRuntimeErr}
 use mathlib.Core.Bool.{Bool}
 use Rattle.rules.specs.CodegenData.{pure, emit, newNum, newVal}
-use Rattle.rules.specs.Operators.{errorJump, getVariable, copyValreg, makeTruthy, numberify, makeVal, makeLogicBinop, guard, makeArithBinop, makeCmpBinop, makeNe, applyInPlace, makeNot, applyInNumber, incdecOp, codegenIncdec}
-use Rattle.codegen.specs.Does.{◌▷◌}
+use Rattle.rules.specs.Operators.{errorJump, getVariable, makeTruthy, numberify, makeVal, makeLogicBinop, guard, makeArithBinop, makeCmpBinop, makeNe, applyInPlace, makeNot, applyInNumber, incdecOp, codegenIncdec}
+use Rattle.codegen.specs.Does.{◌▷◌, makeNum}
 
-pub as-copy : (r : ℕ) → copyValreg r ≡ (newVal ▷ λ v. emit (ins₂ Op.CopyVal r v) ▷ λ _. pure v)
-unfolding copyValreg ◌▷◌
-as-copy r = refl
+pub as-num : (o r : ℕ) → makeNum o r ≡ (newNum (pos 0) ▷ λ n. emit (ins₂ o r n) ▷ λ _. pure n)
+unfolding makeNum ◌▷◌
+as-num o r = refl
 
-pub as-truthy : (r : ℕ) → makeTruthy r ≡ (newNum (pos 0) ▷ λ n. emit (ins₂ Op.IsTruthyVal r n) ▷ λ _. pure n)
-unfolding makeTruthy ◌▷◌
-as-truthy r = refl
-
-pub as-numberify : (r : ℕ) → numberify r ≡ (newNum (pos 0) ▷ λ n. emit (ins₂ Op.NumberifyVal r n) ▷ λ _. emit errorJump ▷ λ _. pure n)
-unfolding numberify ◌▷◌
+pub as-numberify : (r : ℕ) → numberify r ≡ (makeNum Op.NumberifyVal r ▷ λ n. emit errorJump ▷ λ _. pure n)
+unfolding numberify makeNum ◌▷◌
 as-numberify r = refl
 
 pub as-val : (o r : ℕ) → makeVal o r ≡ (newVal ▷ λ v. emit (ins₂ o r v) ▷ λ _. pure v)
@@ -45,8 +41,8 @@ pub as-in-place : (o l r : ℕ) → applyInPlace o l r ≡ (emit (ins₂ o l r) 
 unfolding applyInPlace ◌▷◌
 as-in-place o l r = refl
 
-pub as-not : (r : ℕ) → makeNot r ≡ (newNum (pos 0) ▷ λ n. emit (ins₂ Op.NotVal r n) ▷ λ _. makeVal Op.ValueifyNum n)
-unfolding makeNot ◌▷◌
+pub as-not : (r : ℕ) → makeNot r ≡ (makeNum Op.NotVal r ▷ λ n. makeVal Op.ValueifyNum n)
+unfolding makeNot makeNum ◌▷◌
 as-not r = refl
 
 pub as-in-number : (o r : ℕ) → applyInNumber o r ≡ (numberify r ▷ λ n. emit (ins₁ o n) ▷ λ _. makeVal Op.ValueifyNum n)

@@ -211,8 +211,8 @@ incdec-shape false o e = rw e
 -- ---- what a thin step's contract comes to: counters, table and answer are known by equations
 
 module _ {c z : Counters} where
-  pub emit-does : {is is' : List ℕ} {w : ℕ} → is' ≡ set is c.at w → z ≡ plus-instr c → (i : Instruction) → w ≡ wordTo c.err.0 i → DoesCode (emit i) c is is' 0 z
-  emit-does f e i q = rw (f, e) (record { does = emitted i q })
+  pub emit_does : {is is' : List ℕ} {w : ℕ} → is' ≡ set is c.at w → z ≡ plus-instr c → (i : Instruction) → w ≡ wordTo c.err.0 i → DoesCode (emit i) c is is' 0 z
+  emit_does f e i q = rw (f, e) (record { does = emitted i q })
 
   pub num-does : {ns ns' : List ℤ} {v : ℕ} (x : ℤ) → v ≡ c.numbers → ns' ≡ set ns c.numbers x → z ≡ plus-number c → DoesNums (newNum x) c ns ns' v z
   num-does x q f e = rw (q, f, e) (record { does = numbered x })

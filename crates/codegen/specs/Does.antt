@@ -1,12 +1,12 @@
 -- What a step of the code does, in terms of the steps of `rules` (CodegenData). Lowering counts in `Counters` and writes into lent tables;
 -- `Stands` says that counters and tables show a state of `rules`, and `Does` that they still do after the step. Definitions only.
-use Rattle.std.specs.Prelude.{◌≡◌, List, ◌++◌, map, ℕ, ◌+◌, ◌<◌, ℤ, length, get_or}
+use Rattle.std.specs.Prelude.{◌≡◌, List, ◌++◌, map, ℕ, ◌+◌, ◌<◌, ℤ, pos, length, get_or}
 use Rattle.std.proofs.Math.Option.{Option, none, some}
 use Rattle.std.proofs.lemmas.List.Edits.{sets}
 use Rattle.rules.specs.Constants.{mark}
-use Rattle.rules.specs.Instr.{Instruction, aimed}
+use Rattle.rules.specs.Instr.{Instruction, ins₂, aimed}
 use Rattle.rules.specs.Word.{insWord, spanWord}
-use Rattle.rules.specs.CodegenData.{CodegenData, Lower}
+use Rattle.rules.specs.CodegenData.{CodegenData, Lower, pure, ◌>>=◌, ◌>>◌, emit, newNum}
 use Rattle.rules.specs.Lowered.{spans, texts}
 use Rattle.codegen.specs.declared.state.Counters.{Counters}
 
@@ -96,3 +96,11 @@ pub record DoesText (m : Lower ℕ) (c : Counters) (is is' ss ss' ps ps' : List 
 infixr 20 ◌▷◌
 unfoldable pub ◌▷◌ : Lower ℕ → (ℕ → Lower ℕ) → Lower ℕ
 ◌▷◌ m k g = k (m g).0 (m g).1
+
+-- ---- a value's content as a number, by an opcode of a value and a number: what `makeTruthy`, `numberify` and `makeNot` begin with
+
+unfoldable pub makeNum : ℕ → ℕ → Lower ℕ
+makeNum op r = do
+  n ← newNum (pos 0)
+  emit (ins₂ op r n)
+  pure n

@@ -1,3 +1,4 @@
 pub mod Does
 pub mod Costs
 pub mod Told
+pub mod Shapes

@@ -2,8 +2,12 @@
 //
 // Each function is shown to do what the step of its name in `rules` (Operators) does, and to take so many instructions. A caller owes
 // room (`Room`) for them, and an opcode of the shape that is emitted (`Shape`).
+// An instruction is named by its opcode, a number (words: instr). Each lent table is a parameter of its own: a struct of them would say of each
+// function that it keeps those that it does not touch.
 ghost use Rattle.rules.specs.Constants.{mostCount};
-ghost use Rattle.std.specs.Prelude.{◌≡◌, ℕ, ◌+◌, ◌≤◌, ◌<◌, length, get_or};
+ghost use Rattle.std.proofs.Math.Option.{some};
+ghost use Rattle.laws.specs.Table.{isPlace};
+ghost use Rattle.std.specs.Prelude.{◌≡◌, refl, false, ℕ, ◌+◌, ◌≤◌, ◌<◌, length, get_or};
 ghost use Rattle.rules.specs.Tree as Tree;
 ghost use Rattle.rules.specs.Opcode as Op;
 ghost use Rattle.rules.specs.Instr.{canRuntimeErr, ins₂, unused, num, val};
@@ -11,14 +15,15 @@ ghost use Rattle.rules.specs.Parse.{binops, unops};
 ghost use Rattle.rules.specs.CodegenData.{emit as emitS};
 ghost use Rattle.rules.specs.Operators.{copyValreg, makeTruthy, numberify as numberifyS, makeVal, makeLogicBinop, makeArithBinop, makeCmpBinop, makeNe, applyInPlace, applyBinop, makeNot, applyInNumber, applyUnop, incdecOp, codegenIncdec, guard};
 ghost use Rattle.words.specs.Told.{Shape};
-ghost use Rattle.codegen.specs.Does.{◌▷◌, DoesCode, DoesBoth, DoesNamed};
+ghost use Rattle.codegen.specs.Does.{◌▷◌, DoesCode, DoesBoth, DoesNamed, makeNum};
+ghost use Rattle.codegen.specs.Shapes.{num-to-val, str-to-val, val-to-val};
 ghost use Rattle.codegen.specs.Costs.{Spent, Room, guardCost, binopCost, unopCost};
 ghost use Rattle.codegen.specs.Told.{binopTold, unopTold};
 
-use crate::state::{Counters, GotNum, GotVal, add_jmperr, emit, get_variable, new_num, new_val};
-use words::instr::{Instruction, NumReg, StrReg, ValReg};
+use crate::state::{Counters, Got, add_jmperr, emit, get_variable, new_num, new_val};
+use words::instr::{Instruction, NumReg, Operand, StrReg, ValReg};
 
-// Operators, in the order of their declaration.
+// Operators, in the order of their numbers in a tree file.
 #[derive(Clone, Copy)]
 pub enum Binop {
     And,
@@ -52,124 +57,158 @@ pub enum Unop {
     Atan,
 }
 
-// The operator of a number in a tree file.
-#[tactic(auto, unfolding(rules::specs::Parse::binops))]
-pub fn binop_of(k: u64) -> Binop
-    requires { k < 14 }
-    ensures { binopTold result ≡ get_or binops k Tree.Gt }
-{
-    match k {
-        0 => Binop::And,
-        1 => Binop::Or,
-        2 => Binop::Add,
-        3 => Binop::Sub,
-        4 => Binop::Mul,
-        5 => Binop::Div,
-        6 => Binop::Mod,
-        7 => Binop::Pow,
-        8 => Binop::Eq,
-        9 => Binop::Ne,
-        10 => Binop::Le,
-        11 => Binop::Lt,
-        12 => Binop::Ge,
-        _ => Binop::Gt,
+// The operator of a number; one past the last counts as the last.
+impl Binop {
+    const ALL: [Binop; 14] = [
+        Binop::And,
+        Binop::Or,
+        Binop::Add,
+        Binop::Sub,
+        Binop::Mul,
+        Binop::Div,
+        Binop::Mod,
+        Binop::Pow,
+        Binop::Eq,
+        Binop::Ne,
+        Binop::Le,
+        Binop::Lt,
+        Binop::Ge,
+        Binop::Gt,
+    ];
+
+    #[tactic(auto, unfolding(rules::specs::Parse::binops))]
+    pub fn of(k: u64) -> Binop
+        ensures { binopTold result ≡ get_or binops k Tree.Gt }
+    {
+        Self::ALL.get(k as usize).copied().unwrap_or(Binop::Gt)
     }
 }
 
-#[tactic(auto, unfolding(rules::specs::Parse::unops))]
-pub fn unop_of(k: u64) -> Unop
-    requires { k < 11 }
-    ensures { unopTold result ≡ get_or unops k Tree.Atan }
+impl Unop {
+    const ALL: [Unop; 11] = [
+        Unop::Neg,
+        Unop::Not,
+        Unop::Abs,
+        Unop::Sqrt,
+        Unop::Fact,
+        Unop::Sin,
+        Unop::Cos,
+        Unop::Tan,
+        Unop::Asin,
+        Unop::Acos,
+        Unop::Atan,
+    ];
+
+    #[tactic(auto, unfolding(rules::specs::Parse::unops))]
+    pub fn of(k: u64) -> Unop
+        ensures { unopTold result ≡ get_or unops k Tree.Atan }
+    {
+        Self::ALL.get(k as usize).copied().unwrap_or(Unop::Atan)
+    }
+}
+
+// A register whose content is made a value by the opcode of its kind.
+pub trait ToVal: Operand {
+    ghost TO_VAL: { ℕ };
+
+    const TO_VAL: u64;
+
+    // It is an opcode of a register and a value, and no jump.
+    ghost shaped: { Shape TO_VAL Self.kind val unused };
+
+    ghost lands: { isPlace (some (Self.kind, val, unused)) ≡ false };
+}
+
+impl ToVal for NumReg {
+    ghost TO_VAL = { Op.ValueifyNum };
+
+    const TO_VAL: u64 = Instruction::VALUEIFY_NUM;
+
+    ghost shaped = { num-to-val };
+
+    ghost lands = { refl };
+}
+
+impl ToVal for StrReg {
+    ghost TO_VAL = { Op.ValueifyStr };
+
+    const TO_VAL: u64 = Instruction::VALUEIFY_STR;
+
+    ghost shaped = { str-to-val };
+
+    ghost lands = { refl };
+}
+
+impl ToVal for ValReg {
+    ghost TO_VAL = { Op.CopyVal };
+
+    const TO_VAL: u64 = Instruction::COPY_VAL;
+
+    ghost shaped = { val-to-val };
+
+    ghost lands = { refl };
+}
+
+// A register's content as a value.
+pub fn make_val<A: ToVal>(instrs: &mut [u64], c: Counters, r: A) -> Got<ValReg>
+    requires { (c.at < length instrs.old) × (c.values < mostCount) }
+    ensures spent { Spent c result.next 1 0 1 0 0 }
+    ensures does { DoesCode (makeVal A.TO_VAL (A.number_of r)) c instrs.old instrs.new result.reg.0 result.next }
 {
-    match k {
-        0 => Unop::Neg,
-        1 => Unop::Not,
-        2 => Unop::Abs,
-        3 => Unop::Sqrt,
-        4 => Unop::Fact,
-        5 => Unop::Sin,
-        6 => Unop::Cos,
-        7 => Unop::Tan,
-        8 => Unop::Asin,
-        9 => Unop::Acos,
-        _ => Unop::Atan,
+    let v = new_val(c);
+    let w = Instruction::of_two(A::TO_VAL, r, v.reg);
+    Got {
+        reg: v.reg,
+        next: emit(instrs, v.next, w),
     }
 }
 
 // A copy of a value register.
-#[tactic(auto, unfolding(rules::specs::Instr::kinds, rules::specs::Instr::table))]
-pub fn copy_valreg(instrs: &mut [u64], c: Counters, r: ValReg) -> GotVal
+#[tactic(auto, unfolding(rules::specs::Operators::copyValreg, rules::specs::Operators::makeVal))]
+pub fn copy_valreg(instrs: &mut [u64], c: Counters, r: ValReg) -> Got<ValReg>
     requires { (c.at < length instrs.old) × (c.values < mostCount) }
     ensures spent { Spent c result.next 1 0 1 0 0 }
     ensures does { DoesCode (copyValreg r.0) c instrs.old instrs.new result.reg.0 result.next }
 {
-    let v = new_val(c);
-    let reg = v.reg;
-    let next = emit(
-        instrs,
-        v.next,
-        Instruction::val_val(Instruction::COPY_VAL, r, reg),
-    );
-    GotVal { reg, next }
+    make_val(instrs, c, r)
+}
+
+// A value's content as a number: an opcode of a value and a number, into a new register.
+fn make_num(instrs: &mut [u64], numbers: &mut [i64], c: Counters, op: u64, r: ValReg) -> Got<NumReg>
+    requires { Room c 1 1 0 (length instrs.old) (length numbers.old) × Shape op val num unused }
+    ensures spent { Spent c result.next 1 1 0 0 0 }
+    ensures does { DoesBoth (makeNum op r.0) c instrs.old instrs.new numbers.old numbers.new result.reg.0 result.next }
+{
+    let n = new_num(numbers, c, 0);
+    let w = Instruction::of_two(op, r, n.reg);
+    Got {
+        reg: n.reg,
+        next: emit(instrs, n.next, w),
+    }
 }
 
 // Whether a value is truthy, as a number.
-#[tactic(auto, unfolding(rules::specs::Instr::kinds, rules::specs::Instr::table))]
-pub fn make_truthy(instrs: &mut [u64], numbers: &mut [i64], c: Counters, r: ValReg) -> GotNum
+#[tactic(auto, unfolding(rules::specs::Instr::kinds, rules::specs::Instr::table, rules::specs::Operators::makeTruthy, crate::specs::Does::makeNum))]
+pub fn make_truthy(instrs: &mut [u64], numbers: &mut [i64], c: Counters, r: ValReg) -> Got<NumReg>
     requires { Room c 1 1 0 (length instrs.old) (length numbers.old) }
     ensures spent { Spent c result.next 1 1 0 0 0 }
     ensures does { DoesBoth (makeTruthy r.0) c instrs.old instrs.new numbers.old numbers.new result.reg.0 result.next }
 {
-    let n = new_num(numbers, c, 0);
-    let reg = n.reg;
-    let next = emit(
-        instrs,
-        n.next,
-        Instruction::val_num(Instruction::IS_TRUTHY_VAL, r, reg),
-    );
-    GotNum { reg, next }
+    make_num(instrs, numbers, c, Instruction::IS_TRUTHY_VAL, r)
 }
 
 // A value as a number, or an error.
 #[tactic(auto, unfolding(rules::specs::Instr::kinds, rules::specs::Instr::table))]
-pub fn numberify(instrs: &mut [u64], numbers: &mut [i64], c: Counters, r: ValReg) -> GotNum
+pub fn numberify(instrs: &mut [u64], numbers: &mut [i64], c: Counters, r: ValReg) -> Got<NumReg>
     requires { Room c 2 1 0 (length instrs.old) (length numbers.old) }
     ensures spent { Spent c result.next 2 1 0 0 0 }
     ensures does { DoesBoth (numberifyS r.0) c instrs.old instrs.new numbers.old numbers.new result.reg.0 result.next }
 {
-    let n = new_num(numbers, c, 0);
-    let reg = n.reg;
-    let c1 = emit(
-        instrs,
-        n.next,
-        Instruction::val_num(Instruction::NUMBERIFY_VAL, r, reg),
-    );
-    let next = add_jmperr(instrs, c1);
-    GotNum { reg, next }
-}
-
-// A number as a value.
-pub fn make_val(instrs: &mut [u64], c: Counters, r: NumReg) -> GotVal
-    requires { (c.at < length instrs.old) × (c.values < mostCount) }
-    ensures spent { Spent c result.next 1 0 1 0 0 }
-    ensures does { DoesCode (makeVal Op.ValueifyNum r.0) c instrs.old instrs.new result.reg.0 result.next }
-{
-    let v = new_val(c);
-    let reg = v.reg;
-    let next = emit(instrs, v.next, Instruction::valueify_num(r, reg));
-    GotVal { reg, next }
-}
-
-// A string as a value.
-pub fn make_val_of_str(instrs: &mut [u64], c: Counters, r: StrReg) -> GotVal
-    requires { (c.at < length instrs.old) × (c.values < mostCount) }
-    ensures spent { Spent c result.next 1 0 1 0 0 }
-    ensures does { DoesCode (makeVal Op.ValueifyStr r.0) c instrs.old instrs.new result.reg.0 result.next }
-{
-    let v = new_val(c);
-    let reg = v.reg;
-    let next = emit(instrs, v.next, Instruction::valueify_str(r, reg));
-    GotVal { reg, next }
+    let n = make_num(instrs, numbers, c, Instruction::NUMBERIFY_VAL, r);
+    Got {
+        reg: n.reg,
+        next: add_jmperr(instrs, n.next),
+    }
 }
 
 // And, Or: right is made truthy before left.
@@ -180,14 +219,14 @@ pub fn make_logic_binop(
     op: u64,
     l: ValReg,
     r: ValReg,
-) -> GotVal
+) -> Got<ValReg>
     requires { Room c 4 2 1 (length instrs.old) (length numbers.old) × Shape op num num unused }
     ensures spent { Spent c result.next 4 2 1 0 0 }
     ensures does { DoesBoth (makeLogicBinop op l.0 r.0) c instrs.old instrs.new numbers.old numbers.new result.reg.0 result.next }
 {
     let m = make_truthy(instrs, numbers, c, r);
     let n = make_truthy(instrs, numbers, m.next, l);
-    let c1 = emit(instrs, n.next, Instruction::num_num(op, n.reg, m.reg));
+    let c1 = emit(instrs, n.next, Instruction::of_two(op, n.reg, m.reg));
     make_val(instrs, c1, n.reg)
 }
 
@@ -197,7 +236,7 @@ fn emit_guarded(instrs: &mut [u64], c: Counters, op: u64, l: NumReg, r: NumReg) 
     ensures spent { Spent c result (1 + guardCost (canRuntimeErr op)) 0 0 0 0 }
     ensures does { DoesCode (emitS (ins₂ op l.0 r.0) ▷ λ _. guard (canRuntimeErr op)) c instrs.old instrs.new 0 result }
 {
-    let w = Instruction::num_num(op, l, r);
+    let w = Instruction::of_two(op, l, r);
     let c1 = emit(instrs, c, w);
     if w.can_runtime_err() {
         return add_jmperr(instrs, c1);
@@ -213,7 +252,7 @@ pub fn make_arith_binop(
     op: u64,
     l: ValReg,
     r: ValReg,
-) -> GotVal
+) -> Got<ValReg>
     requires { Room c 7 2 1 (length instrs.old) (length numbers.old) × Shape op num num unused }
     ensures spent { Spent c result.next (6 + guardCost (canRuntimeErr op)) 2 1 0 0 }
     ensures does { DoesBoth (makeArithBinop op l.0 r.0) c instrs.old instrs.new numbers.old numbers.new result.reg.0 result.next }
@@ -232,19 +271,25 @@ pub fn make_cmp_binop(
     op: u64,
     l: ValReg,
     r: ValReg,
-) -> GotVal
+) -> Got<ValReg>
     requires { Room c 2 1 1 (length instrs.old) (length numbers.old) × Shape op val val num }
     ensures spent { Spent c result.next 2 1 1 0 0 }
     ensures does { DoesBoth (makeCmpBinop op l.0 r.0) c instrs.old instrs.new numbers.old numbers.new result.reg.0 result.next }
 {
     let n = new_num(numbers, c, 0);
-    let c1 = emit(instrs, n.next, Instruction::val_val_num(op, l, r, n.reg));
+    let c1 = emit(instrs, n.next, Instruction::of_three(op, l, r, n.reg));
     make_val(instrs, c1, n.reg)
 }
 
-// Ne: Eq, then NotNum.
+// Ne: Eq, then NotNum. Its first two calls stand in `make_cmp_binop` too: a function of the two, with its room and its step, would be longer.
 #[tactic(auto, unfolding(rules::specs::Instr::kinds, rules::specs::Instr::table))]
-pub fn make_ne(instrs: &mut [u64], numbers: &mut [i64], c: Counters, l: ValReg, r: ValReg) -> GotVal
+pub fn make_ne(
+    instrs: &mut [u64],
+    numbers: &mut [i64],
+    c: Counters,
+    l: ValReg,
+    r: ValReg,
+) -> Got<ValReg>
     requires { Room c 3 1 1 (length instrs.old) (length numbers.old) }
     ensures spent { Spent c result.next 3 1 1 0 0 }
     ensures does { DoesBoth (makeNe l.0 r.0) c instrs.old instrs.new numbers.old numbers.new result.reg.0 result.next }
@@ -253,20 +298,22 @@ pub fn make_ne(instrs: &mut [u64], numbers: &mut [i64], c: Counters, l: ValReg, 
     let c1 = emit(
         instrs,
         n.next,
-        Instruction::val_val_num(Instruction::EQ, l, r, n.reg),
+        Instruction::of_three(Instruction::EQ, l, r, n.reg),
     );
-    let c2 = emit(instrs, c1, Instruction::of_num(Instruction::NOT_NUM, n.reg));
+    let c2 = emit(instrs, c1, Instruction::of_one(Instruction::NOT_NUM, n.reg));
     make_val(instrs, c2, n.reg)
 }
 
 // AddVal, SubVal: into the left operand's register.
-pub fn apply_in_place(instrs: &mut [u64], c: Counters, op: u64, l: ValReg, r: ValReg) -> GotVal
+pub fn apply_in_place(instrs: &mut [u64], c: Counters, op: u64, l: ValReg, r: ValReg) -> Got<ValReg>
     requires { (c.at < length instrs.old) × Shape op val val unused }
     ensures spent { Spent c result.next 1 0 0 0 0 }
     ensures does { DoesCode (applyInPlace op l.0 r.0) c instrs.old instrs.new result.reg.0 result.next }
 {
-    let next = emit(instrs, c, Instruction::val_val(op, l, r));
-    GotVal { reg: l, next }
+    Got {
+        reg: l,
+        next: emit(instrs, c, Instruction::of_two(op, l, r)),
+    }
 }
 
 // A binary operator on registers of its own. Ge is Le with right and left exchanged, Gt so with Lt.
@@ -278,7 +325,7 @@ pub fn apply_binop(
     op: Binop,
     l: ValReg,
     r: ValReg,
-) -> GotVal
+) -> Got<ValReg>
     requires { Room c 7 2 1 (length instrs.old) (length numbers.old) }
     ensures spent { Spent c result.next (binopCost (binopTold op)) 2 1 0 0 }
     ensures does { DoesBoth (applyBinop (binopTold op) l.0 r.0) c instrs.old instrs.new numbers.old numbers.new result.reg.0 result.next }
@@ -307,31 +354,26 @@ pub fn codegen_from_binop(
     numbers: &mut [i64],
     c: Counters,
     l: ValReg,
-    op: u64,
+    op: Binop,
     r: ValReg,
-) -> GotVal
-    requires { Room c 8 2 2 (length instrs.old) (length numbers.old) × (op < 14) }
-    ensures spent { Spent c result.next (1 + binopCost (get_or binops op Tree.Gt)) 2 2 0 0 }
-    ensures does { DoesBoth (copyValreg l.0 ▷ λ x. applyBinop (get_or binops op Tree.Gt) x r.0) c instrs.old instrs.new numbers.old numbers.new result.reg.0 result.next }
+) -> Got<ValReg>
+    requires { Room c 8 2 2 (length instrs.old) (length numbers.old) }
+    ensures spent { Spent c result.next (1 + binopCost (binopTold op)) 2 2 0 0 }
+    ensures does { DoesBoth (copyValreg l.0 ▷ λ x. applyBinop (binopTold op) x r.0) c instrs.old instrs.new numbers.old numbers.new result.reg.0 result.next }
 {
     let x = copy_valreg(instrs, c, l);
-    apply_binop(instrs, numbers, x.next, binop_of(op), x.reg, r)
+    apply_binop(instrs, numbers, x.next, op, x.reg, r)
 }
 
 // Not: of a value, without numberifying.
 #[tactic(auto, unfolding(rules::specs::Instr::kinds, rules::specs::Instr::table))]
-pub fn make_not(instrs: &mut [u64], numbers: &mut [i64], c: Counters, r: ValReg) -> GotVal
+pub fn make_not(instrs: &mut [u64], numbers: &mut [i64], c: Counters, r: ValReg) -> Got<ValReg>
     requires { Room c 2 1 1 (length instrs.old) (length numbers.old) }
     ensures spent { Spent c result.next 2 1 1 0 0 }
     ensures does { DoesBoth (makeNot r.0) c instrs.old instrs.new numbers.old numbers.new result.reg.0 result.next }
 {
-    let n = new_num(numbers, c, 0);
-    let c1 = emit(
-        instrs,
-        n.next,
-        Instruction::val_num(Instruction::NOT_VAL, r, n.reg),
-    );
-    make_val(instrs, c1, n.reg)
+    let n = make_num(instrs, numbers, c, Instruction::NOT_VAL, r);
+    make_val(instrs, n.next, n.reg)
 }
 
 // The other unary operators: of a number, in its register.
@@ -341,13 +383,13 @@ pub fn apply_in_number(
     c: Counters,
     op: u64,
     r: ValReg,
-) -> GotVal
+) -> Got<ValReg>
     requires { Room c 4 1 1 (length instrs.old) (length numbers.old) × Shape op num unused unused }
     ensures spent { Spent c result.next 4 1 1 0 0 }
     ensures does { DoesBoth (applyInNumber op r.0) c instrs.old instrs.new numbers.old numbers.new result.reg.0 result.next }
 {
     let n = numberify(instrs, numbers, c, r);
-    let c1 = emit(instrs, n.next, Instruction::of_num(op, n.reg));
+    let c1 = emit(instrs, n.next, Instruction::of_one(op, n.reg));
     make_val(instrs, c1, n.reg)
 }
 
@@ -359,7 +401,7 @@ pub fn apply_unop(
     c: Counters,
     op: Unop,
     r: ValReg,
-) -> GotVal
+) -> Got<ValReg>
     requires { Room c 4 1 1 (length instrs.old) (length numbers.old) }
     ensures spent { Spent c result.next (unopCost (unopTold op)) 1 1 0 0 }
     ensures does { DoesBoth (applyUnop (unopTold op) r.0) c instrs.old instrs.new numbers.old numbers.new result.reg.0 result.next }
@@ -384,15 +426,15 @@ pub fn codegen_from_unop(
     instrs: &mut [u64],
     numbers: &mut [i64],
     c: Counters,
-    op: u64,
+    op: Unop,
     r: ValReg,
-) -> GotVal
-    requires { Room c 5 1 2 (length instrs.old) (length numbers.old) × (op < 11) }
-    ensures spent { Spent c result.next (1 + unopCost (get_or unops op Tree.Atan)) 1 2 0 0 }
-    ensures does { DoesBoth (copyValreg r.0 ▷ λ x. applyUnop (get_or unops op Tree.Atan) x) c instrs.old instrs.new numbers.old numbers.new result.reg.0 result.next }
+) -> Got<ValReg>
+    requires { Room c 5 1 2 (length instrs.old) (length numbers.old) }
+    ensures spent { Spent c result.next (1 + unopCost (unopTold op)) 1 2 0 0 }
+    ensures does { DoesBoth (copyValreg r.0 ▷ λ x. applyUnop (unopTold op) x) c instrs.old instrs.new numbers.old numbers.new result.reg.0 result.next }
 {
     let x = copy_valreg(instrs, c, r);
-    apply_unop(instrs, numbers, x.next, unop_of(op), x.reg)
+    apply_unop(instrs, numbers, x.next, op, x.reg)
 }
 
 #[tactic(auto, unfolding(rules::specs::Operators::incdecOp))]
@@ -413,14 +455,16 @@ pub fn codegen_incdec(
     c: Counters,
     inc: bool,
     x: usize,
-) -> GotVal
+) -> Got<ValReg>
     requires { (c.at + 2 ≤ length instrs.old) × (x < length names.old) × (c.values < mostCount) }
     ensures spent { Spent c result.next 2 0 1 0 0 }
     ensures does { (n : ℕ) → x < n → DoesNamed n (codegenIncdec inc x) c instrs.old instrs.new names.old names.new result.reg.0 result.next }
 {
     let v = get_variable(names, c, x);
-    let reg = v.reg;
-    let c1 = emit(instrs, v.next, Instruction::of_val(incdec_op(inc), reg));
-    let next = add_jmperr(instrs, c1);
-    GotVal { reg, next }
+    let w = Instruction::of_one(incdec_op(inc), v.reg);
+    let c1 = emit(instrs, v.next, w);
+    Got {
+        reg: v.reg,
+        next: add_jmperr(instrs, c1),
+    }
 }

@@ -3,7 +3,9 @@
 //
 // Each step is shown to do what the step of its name in `rules` (CodegenData, Operators) does. A caller owes room in the table, and
 // counts below 65,535. The counters are lent to the thin functions `emit_at`, `take_num`, `take_str` and `take_val`, which change them in
-// their place; `emit_word`, `new_num`, `new_strreg` and `new_val` lend them and pass them on by value.
+// their place; `emit_word`, `new_num`, `new_strreg` and `new_val` lend them and pass them on by value, in two lines each: one function for
+// the four would take a closure and be no shorter. That a count is below the length of its table, and an opcode of its shape, is asked by
+// clauses: the tables stand apart from the counters, and an opcode is a number.
 ghost use Rattle.rules.specs.Constants.{mostCount};
 ghost use Rattle.std.specs.Prelude.{◌≡◌, ℕ, ◌+◌, ◌≤◌, ◌<◌, length, set};
 ghost use Rattle.rules.specs.Instr.{Instruction as Ins};
@@ -26,48 +28,11 @@ pub struct Counters {
     pub err: Section,
 }
 
-// A register, and the counters after the step that gave it.
+// A register of one kind, and the counters after the step that gave it.
 #[derive(Clone, Copy)]
-pub struct GotNum {
-    pub reg: NumReg,
+pub struct Got<R> {
+    pub reg: R,
     pub next: Counters,
-}
-
-#[derive(Clone, Copy)]
-pub struct GotStr {
-    pub reg: StrReg,
-    pub next: Counters,
-}
-
-#[derive(Clone, Copy)]
-pub struct GotVal {
-    pub reg: ValReg,
-    pub next: Counters,
-}
-
-// A count as an index.
-pub fn index(n: u16) -> usize
-    ensures { result ≡ n }
-{
-    n as usize
-}
-
-// A word at a place, which is answered with one more.
-fn put_instr(instrs: &mut [u64], n: usize, w: Instruction) -> usize
-    requires { n < length instrs.old }
-    ensures { (instrs.new ≡ set instrs.old n w.0) × (result ≡ n + 1) }
-{
-    instrs[n] = w.0;
-    n + 1
-}
-
-fn put_num(numbers: &mut [i64], n: u16, z: i64) -> u16
-    requires { (n < length numbers.old) × (n < mostCount) }
-    ensures { (numbers.new ≡ set numbers.old n z) × (result ≡ n + 1) }
-{
-    let i = index(n);
-    numbers[i] = z;
-    n + 1
 }
 
 // An instruction behind the others, in lent counters.
@@ -75,9 +40,8 @@ pub fn emit_at(instrs: &mut [u64], c: &mut Counters, w: Instruction)
     requires { c.old.at < length instrs.old }
     ensures { (instrs.new ≡ set instrs.old c.old.at w.0) × (c.new ≡ plus-instr c.old) }
 {
-    let n = c.at;
-    let k = put_instr(instrs, n, w);
-    c.at = k;
+    instrs[c.at] = w.0;
+    c.at += 1;
 }
 
 // A number register that starts as z, in lent counters.
@@ -85,10 +49,10 @@ pub fn take_num(numbers: &mut [i64], c: &mut Counters, z: i64) -> NumReg
     requires { (c.old.numbers < length numbers.old) × (c.old.numbers < mostCount) }
     ensures { (result.0 ≡ c.old.numbers) × (numbers.new ≡ set numbers.old c.old.numbers z) × (c.new ≡ plus-number c.old) }
 {
-    let n = c.numbers;
-    let k = put_num(numbers, n, z);
-    c.numbers = k;
-    NumReg(n)
+    let reg = NumReg(c.numbers);
+    numbers[usize::from(reg.0)] = z;
+    c.numbers += 1;
+    reg
 }
 
 // A string register of n characters, in lent counters.
@@ -96,11 +60,10 @@ pub fn take_str(c: &mut Counters, n: u16) -> StrReg
     requires { (c.old.strings < mostCount) × (c.old.chars + n ≤ mostCount) }
     ensures { (result.0 ≡ c.old.strings) × (c.new ≡ plus-string n c.old) }
 {
-    let k = c.strings;
-    let m = c.chars;
-    c.strings = k + 1;
-    c.chars = m + n;
-    StrReg(k)
+    let reg = StrReg(c.strings);
+    c.strings += 1;
+    c.chars += n;
+    reg
 }
 
 // A value register, in lent counters.
@@ -108,9 +71,9 @@ pub fn take_val(c: &mut Counters) -> ValReg
     requires { c.old.values < mostCount }
     ensures { (result.0 ≡ c.old.values) × (c.new ≡ plus-value c.old) }
 {
-    let v = c.values;
-    c.values = v + 1;
-    ValReg(v)
+    let reg = ValReg(c.values);
+    c.values += 1;
+    reg
 }
 
 // A word behind the other instructions, whatever it is.
@@ -124,6 +87,7 @@ pub fn emit_word(instrs: &mut [u64], c: Counters, w: Instruction) -> Counters
 }
 
 // An instruction behind the others.
+#[tactic(auto, using(crate::proofs::Laws::emit_does))]
 pub fn emit(instrs: &mut [u64], c: Counters, w: Instruction) -> Counters
     requires { c.at < length instrs.old }
     ensures spent { Spent c result 1 0 0 0 0 }
@@ -133,46 +97,47 @@ pub fn emit(instrs: &mut [u64], c: Counters, w: Instruction) -> Counters
 }
 
 // A number register that starts as z.
-pub fn new_num(numbers: &mut [i64], c: Counters, z: i64) -> GotNum
+pub fn new_num(numbers: &mut [i64], c: Counters, z: i64) -> Got<NumReg>
     requires { (c.numbers < length numbers.old) × (c.numbers < mostCount) }
     ensures spent { Spent c result.next 0 1 0 0 0 }
     ensures does { DoesNums (newNum z) c numbers.old numbers.new result.reg.0 result.next }
 {
     let mut d = c;
     let reg = take_num(numbers, &mut d, z);
-    GotNum { reg, next: d }
+    Got { reg, next: d }
 }
 
 // A string register of n characters.
-pub fn new_strreg(c: Counters, n: u16) -> GotStr
+pub fn new_strreg(c: Counters, n: u16) -> Got<StrReg>
     requires { (c.strings < mostCount) × (c.chars + n ≤ mostCount) }
     ensures { (result.reg.0 ≡ c.strings) × (result.next ≡ plus-string n c) }
 {
     let mut d = c;
     let reg = take_str(&mut d, n);
-    GotStr { reg, next: d }
+    Got { reg, next: d }
 }
 
 // A value register.
-pub fn new_val(c: Counters) -> GotVal
+pub fn new_val(c: Counters) -> Got<ValReg>
     requires { c.values < mostCount }
     ensures spent { Spent c result.next 0 0 1 0 0 }
     ensures does { DoesNone newVal c result.reg.0 result.next }
 {
     let mut d = c;
     let reg = take_val(&mut d);
-    GotVal { reg, next: d }
+    Got { reg, next: d }
 }
 
 // A name's value register: a new one where it is met for the first time.
-pub fn get_variable(names: &mut [u16], c: Counters, x: usize) -> GotVal
+// A name without one is MARK and no Option: its word stands in a lent table of fixed memory.
+pub fn get_variable(names: &mut [u16], c: Counters, x: usize) -> Got<ValReg>
     requires { (x < length names.old) × (c.values < mostCount) }
     ensures spent { Spent c result.next 0 0 1 0 0 }
     ensures does { (n : ℕ) → x < n → DoesNames n (getVariable x) c names.old names.new result.reg.0 result.next }
 {
     let v = names[x];
     if v != MARK {
-        return GotVal {
+        return Got {
             reg: ValReg(v),
             next: c,
         };

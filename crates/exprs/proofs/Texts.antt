@@ -1,20 +1,22 @@
 -- Characters of the file in the pool, and two's complement. Assumes nothing.
-use mathlib.Core.Path.{◌≡◌, refl, sym, ap, ◌∙◌, subst}
-use mathlib.Core.List.{List}
+use mathlib.Core.Path.{◌≡◌, refl, sym, ap, ◌∙◌}
+use mathlib.Core.Bool.{Bool, true, false}
+use lib.Dec.{ltb}
+use mathlib.Core.List.{List, ◌++◌, append_assoc}
 use Prim.Native.Nat.{ℕ, zero, suc, ◌+◌, ◌-◌, ◌*◌, ◌^◌, ◌≤◌, ◌<◌}
-use native.Mathlib.Nat.{zero-add}
 use native.Mathlib.Numerals.{add-one}
 use native.Mathlib.Omega.{arith}
-use lib.IntN.{ℤ, pos, negsuc, ◌-ℤ◌}
-use lib.ListN.{set}
+use lib.IntN.{pos, negsuc}
+use lib.ListN.{set, length, take, drop}
+use borrow.Rule.Slice.PartMut.{put_mid}
+use Rattle.std.proofs.lemmas.List.{append-nil, drop_all, drop-drop, length-drop, length-take-le}
+use Rattle.std.proofs.lemmas.List.Edits.{sets-eq}
 use lib.Seq.{sets}
 use mir.Syntax.{w64}
-use mir.Val.{SFits, to_z, of_z}
-use mir.ValLaws.{to_z_pos, to_z-of_z}
+use mir.Val.{sel, to_z}
 use Rattle.rules.specs.Constants.{charBits}
 use Rattle.rules.specs.Bits.{spelled}
 use Rattle.rules.specs.Parse.{signed}
-use borrow.Author.Tests.{lt-ltb, le-ltb}
 use Rattle.bits.specs.Reads.{charsAt}
 
 -- one character stored, the others left to store
@@ -31,35 +33,35 @@ unfolding charsAt
 no-char s l zero i p h = refl
 no-char s l (suc m) i p h = absurd (omega arith)
 
--- -1 - m
-below : (m : ℕ) → negsuc 0 -ℤ pos m ≡ negsuc m
-below zero = refl
-below (suc k) = ap (λ (j : ℕ). negsuc (suc j)) (zero-add k)
-
-module _ (m : ℕ) (fits : m < 2 ^ 63) where
-  pub is : negsuc 0 -ℤ to_z w64 m ≡ negsuc m
-  is = ap (λ (z : ℤ). negsuc 0 -ℤ z) (to_z_pos w64 m fits) ∙ below m
-
-  pub is-fits : SFits w64 (negsuc 0 -ℤ to_z w64 m)
-  is-fits = subst (SFits w64) (sym is) (record { sfits = fits })
-
-  pub is-back : to_z w64 (of_z w64 (negsuc 0 -ℤ to_z w64 m)) ≡ negsuc m
-  is-back = to_z-of_z w64 (negsuc 0 -ℤ to_z w64 m) is-fits ∙ is
-
 pub same-chars : (s l : List ℕ) (i i' m m' p p' : ℕ) → i ≡ i' → m ≡ m' → p ≡ p' → sets l i (charsAt s m p) ≡ sets l i' (charsAt s m' p')
 same-chars s l i i' m m' p p' e f g = rw (e, f, g)
 
 -- a turn of the copying loop
-pub next-char : (s l r : List ℕ) (i n p k w : ℕ) → k < n → w ≡ spelled s charBits (p + 7 * k) → sets l (i + k) (charsAt s (n - k) (p + 7 * k)) ≡ r
-    → sets (set l (i + k) w) (i + (k + 1)) (charsAt s (n - (k + 1)) (p + 7 * (k + 1))) ≡ r
-next-char s l r i n p k w h e q =
-    same-chars s (set l (i + k) w) (i + (k + 1)) (i + k + 1) (n - (k + 1)) (n - k - 1) (p + 7 * (k + 1)) (p + 7 * k + 7) (omega arith) (omega arith) (omega arith)
-    ∙ (one-char s l (n - k) (i + k) (p + 7 * k) w (omega arith) e ∙ q)
+pub next-char : (s l r : List ℕ) (n p k w : ℕ) → k < n → w ≡ spelled s charBits (p + 7 * k) → sets l k (charsAt s (n - k) (p + 7 * k)) ≡ r
+    → sets (set l k w) (k + 1) (charsAt s (n - (k + 1)) (p + 7 * (k + 1))) ≡ r
+next-char s l r n p k w h e q =
+    same-chars s (set l k w) (k + 1) (k + 1) (n - (k + 1)) (n - k - 1) (p + 7 * (k + 1)) (p + 7 * k + 7) refl (omega arith) (omega arith)
+    ∙ (one-char s l (n - k) k (p + 7 * k) w (omega arith) e ∙ q)
 
-pub signed-small : (v : ℕ) → v < 2 ^ 63 → pos v ≡ signed v
-unfolding signed
-signed-small v h = rw (lt-ltb v (2 ^ 63) h, signed)
+-- the whole of a list is stored
+pub all-set : (l vs : List ℕ) → length vs ≡ length l → sets l 0 vs ≡ vs
+all-set l vs h = sets-eq vs l 0 (omega arith) ∙ (ap (λ m. vs ++ m) (drop_all (0 + length vs) l (omega arith)) ∙ append-nil vs)
 
-pub signed-large : (v : ℕ) → 2 ^ 63 ≤ v → negsuc (2 ^ 64 - 1 - v) ≡ signed v
+-- the n from the i-th on are n, and with others in their place the list is as after so many stores
+pub part-length : (l : List ℕ) (i n : ℕ) → i + n ≤ length l → length (take (i + n - i) (drop i l)) ≡ n
+part-length l i n h = length-take-le (i + n - i) (drop i l) (omega (arith, length-drop i l)) ∙ omega arith
+
+pub part-set : (l t vs : List ℕ) (i j k : ℕ) → i ≡ j → i + k ≤ length l → t ≡ vs → length vs ≡ k → put_mid i k l t ≡ sets l j vs
+part-set l t vs i j k q f e h =
+    ap (λ m. put_mid i k l m) e
+    ∙ (ap (λ m. take i l ++ (vs ++ m)) (drop-drop k i l ∙ ap (λ n. drop (i + n) l) (sym h))
+    ∙ (sym (append_assoc (take i l) vs _) ∙ (sym (sets-eq vs l i (omega arith)) ∙ ap (λ n. sets l n vs) q)))
+
+-- a word read in two's complement
+pub as-signed : (v : ℕ) → to_z w64 v ≡ signed v
 unfolding signed
-signed-large v h = rw (le-ltb v (2 ^ 63) h, signed)
+as-signed v = by (ltb v (2 ^ 63))
+  where
+    by : (b : Bool) → sel b (pos v) (negsuc (2 ^ 64 - suc v)) ≡ elim b [ true ↦ pos v | false ↦ negsuc (2 ^ 64 - 1 - v) ]
+    by true = refl
+    by false = ap negsuc (omega arith)

@@ -1,6 +1,9 @@
 -- What a node's word says, field by field, of the expression that is held there; and costs. Assumes nothing.
 use mathlib.Core.Path.{◌≡◌, refl, sym, ap, ◌∙◌}
+use mathlib.Core.Bool.{Bool, true, false}
 use mathlib.Core.List.{List}
+use lib.Dec.{eqb}
+use Rattle.std.proofs.lemmas.Bool.{eqb-true, eqb-false}
 use Prim.Native.Nat.{ℕ, ◌+◌, ◌*◌, ◌≤◌, ◌<◌, ◌^◌}
 use native.Mathlib.Omega.{arith}
 use lib.ListN.{length, get_or}
@@ -64,6 +67,14 @@ expr-most (ident x) = omega arith
 expr-most (number z) = omega arith
 expr-most (string t) = omega arith
 
+-- ---- what a test of a kind says
+
+pub is-kind : {b : Bool} {a k : ℕ} → b ≡ eqb a k → b ≡ true → a ≡ k
+is-kind e h = eqb-true _ _ (sym e ∙ h)
+
+pub no-kind : {b : Bool} {a k : ℕ} → b ≡ eqb a k → b ≡ false → a ≡ k → ⊥
+no-kind e h = eqb-false _ _ (sym e ∙ h)
+
 -- ---- fields
 
 -- where the expression ends
@@ -76,16 +87,40 @@ last-held a c (at-ident x l w k) = (unpacked _ _ _ _ _ _ _ (omega arith) w).last
 last-held a c (at-number p z l w k q) = (unpacked _ _ _ _ _ _ _ (omega arith) w).last-is
 last-held a c (at-string n p x l w y k q) = (unpacked _ _ _ _ _ _ _ (omega arith) w).last-is
 
--- a Binop: its operator, and where the right operand begins
-pub record BinopAt (t s : List ℕ) (m i : ℕ) (e : Expr) (j : ℕ) : Type 0 where
+-- ---- an operation's operands: what they count together, and the most that each costs
+
+pub record Sum (l r e : Expr) : Type 0 where
+  pub nodes : (ofExpr e).nodes ≡ 1 + (ofExpr l).nodes + (ofExpr r).nodes
+  pub strings : (ofExpr e).strings ≡ (ofExpr l).strings + (ofExpr r).strings
+  pub characters : (ofExpr e).characters ≡ (ofExpr l).characters + (ofExpr r).characters
+  pub left-cost : exprCost l ≤ instrsANode * (ofExpr l).nodes
+  pub right-cost : exprCost r ≤ instrsANode * (ofExpr r).nodes
+
+binop-sum : {e l r : Expr} {o : Binop} → e ≡ binop o l r → Sum l r e
+unfolding ofExpr node both
+binop-sum {l = l} {r = r} h = rw h (record { nodes = omega arith; strings = refl; characters = refl; left-cost = expr-most l; right-cost = expr-most r })
+
+pub record Over (r e : Expr) : Type 0 where
+  pub nodes : (ofExpr e).nodes ≡ 1 + (ofExpr r).nodes
+  pub strings : (ofExpr e).strings ≡ (ofExpr r).strings
+  pub characters : (ofExpr e).characters ≡ (ofExpr r).characters
+  pub cost : exprCost r ≤ instrsANode * (ofExpr r).nodes
+
+unop-over : {e r : Expr} {o : Unop} → e ≡ unop o r → Over r e
+unfolding ofExpr node
+unop-over {r = r} h = rw h (record { nodes = omega arith; strings = refl; characters = refl; cost = expr-most r })
+
+-- a Binop of the operator o, whose right operand begins at k
+pub record BinopAt (t s : List ℕ) (m i : ℕ) (e : Expr) (j : ℕ) (o : Binop) (k : ℕ) : Type 0 where
   pub l : Expr
   pub r : Expr
-  pub is : e ≡ binop (get_or binops (opIn (get_or t i 0)) Gt) l r
+  pub is : e ≡ binop o l r
   pub small : opIn (get_or t i 0) < 14
-  pub left : HoldsE t s m (i + 1) l (lastIn (get_or t (i + 1) 0))
-  pub right : HoldsE t s m (lastIn (get_or t (i + 1) 0)) r j
-  pub first : i + 1 < lastIn (get_or t (i + 1) 0)
-  pub second : lastIn (get_or t (i + 1) 0) < j
+  pub left : HoldsE t s m (i + 1) l k
+  pub right : HoldsE t s m k r j
+  pub first : i + 1 < k
+  pub second : k < j
+  pub sum : Sum l r e
 
 pub begins : {t s : List ℕ} {m i i' j : ℕ} {e : Expr} → i ≡ i' → HoldsE t s m i e j → HoldsE t s m i' e j
 begins p h = rw p at h
@@ -93,47 +128,54 @@ begins p h = rw p at h
 pub ends : {t s : List ℕ} {m i j j' : ℕ} {e : Expr} → j ≡ j' → HoldsE t s m i e j → HoldsE t s m i e j'
 ends p h = rw p at h
 
-pub binop-at : {t s : List ℕ} {m i j : ℕ} {e : Expr} → length s ≤ mostBytes → m ≤ 2 ^ nameBits → HoldsE t s m i e j → kindIn (get_or t i 0) ≡ binopKind → BinopAt t s m i e j
+-- its word says which operator it is, and that of its left operand where the right one begins
+pub binop-at : {t s : List ℕ} {m i j k : ℕ} {e : Expr} {o : Binop} → length s ≤ mostBytes → m ≤ 2 ^ nameBits → HoldsE t s m i e j → kindIn (get_or t i 0) ≡ binopKind → o ≡ get_or binops (opIn (get_or t i 0)) Gt → k ≡ lastIn (get_or t (i + 1) 0) → BinopAt t s m i e j o k
 unfolding binops
-binop-at {t} {i = i} a c h k =
-    let b = is-binop h k in
+binop-at {t} {i = i} a c h q u v =
+    let b = is-binop h q in
     let y = op-small binops b.op b.pick in
     let f = unpacked binopKind b.op 0 0 _ 0 _ (omega arith) b.word in
     let l = begins b.next b.left in
-    let z = sym (last-held a c l) in
+    let z = sym (last-held a c l) ∙ sym v in
     let l' = ends z l in
     let r' = begins z b.right in
+    let is = b.is ∙ ap (λ (o : Binop). binop o b.l b.r) (sym (at-elem binops b.op Gt b.o b.pick) ∙ ap (λ (k : ℕ). get_or binops k Gt) (sym f.op-is) ∙ sym u) in
     record {
       l = b.l;
       r = b.r;
-      is = b.is ∙ ap (λ (o : Binop). binop o b.l b.r) (sym (at-elem binops b.op Gt b.o b.pick) ∙ ap (λ (k : ℕ). get_or binops k Gt) (sym f.op-is));
+      is = is;
       small = omega (arith, f.op-is);
       left = l';
       right = r';
       first = grows l';
       second = grows r';
+      sum = binop-sum is;
     }
 
-pub record UnopAt (t s : List ℕ) (m i : ℕ) (e : Expr) (j : ℕ) : Type 0 where
+-- an Unop of the operator o
+pub record UnopAt (t s : List ℕ) (m i : ℕ) (e : Expr) (j : ℕ) (o : Unop) : Type 0 where
   pub r : Expr
-  pub is : e ≡ unop (get_or unops (opIn (get_or t i 0)) Atan) r
+  pub is : e ≡ unop o r
   pub small : opIn (get_or t i 0) < 11
   pub operand : HoldsE t s m (i + 1) r j
   pub after : i + 1 < j
+  pub over : Over r e
 
-pub unop-at : {t s : List ℕ} {m i j : ℕ} {e : Expr} → HoldsE t s m i e j → kindIn (get_or t i 0) ≡ unopKind → UnopAt t s m i e j
+pub unop-at : {t s : List ℕ} {m i j : ℕ} {e : Expr} {o : Unop} → HoldsE t s m i e j → kindIn (get_or t i 0) ≡ unopKind → o ≡ get_or unops (opIn (get_or t i 0)) Atan → UnopAt t s m i e j o
 unfolding unops
-unop-at {t} {i = i} h k =
-    let b = is-unop h k in
+unop-at {t} {i = i} h q u =
+    let b = is-unop h q in
     let y = op-small unops b.op b.pick in
     let f = unpacked unopKind b.op 0 0 _ 0 _ (omega arith) b.word in
     let r = begins b.next b.operand in
+    let is = b.is ∙ ap (λ (o : Unop). unop o b.r) (sym (at-elem unops b.op Atan b.o b.pick) ∙ ap (λ (k : ℕ). get_or unops k Atan) (sym f.op-is) ∙ sym u) in
     record {
       r = b.r;
-      is = b.is ∙ ap (λ (o : Unop). unop o b.r) (sym (at-elem unops b.op Atan b.o b.pick) ∙ ap (λ (k : ℕ). get_or unops k Atan) (sym f.op-is));
+      is = is;
       small = omega (arith, f.op-is);
       operand = r;
       after = grows r;
+      over = unop-over is;
     }
 
 -- ---- the others, by their word w
@@ -215,25 +257,3 @@ pub record Text (n : ℕ) (e : Expr) : Type 0 where
 pub str-counts : {s : List ℕ} {w : ℕ} {e : Expr} → StrAt s w e → Text (nameIn w) e
 unfolding ofExpr
 str-counts {s} {w} b = rw b.is (record { strings = refl; characters = chars-length s (nameIn w) (posIn w) })
-
--- an operation's operands, and the most that each costs
-pub record Sum (l r e : Expr) : Type 0 where
-  pub nodes : (ofExpr e).nodes ≡ 1 + (ofExpr l).nodes + (ofExpr r).nodes
-  pub strings : (ofExpr e).strings ≡ (ofExpr l).strings + (ofExpr r).strings
-  pub characters : (ofExpr e).characters ≡ (ofExpr l).characters + (ofExpr r).characters
-  pub left : exprCost l ≤ instrsANode * (ofExpr l).nodes
-  pub right : exprCost r ≤ instrsANode * (ofExpr r).nodes
-
-pub binop-sum : {t s : List ℕ} {m i j : ℕ} {e : Expr} (b : BinopAt t s m i e j) → Sum b.l b.r e
-unfolding ofExpr node both
-binop-sum b = rw b.is (record { nodes = omega arith; strings = refl; characters = refl; left = expr-most b.l; right = expr-most b.r })
-
-pub record Over (r e : Expr) : Type 0 where
-  pub nodes : (ofExpr e).nodes ≡ 1 + (ofExpr r).nodes
-  pub strings : (ofExpr e).strings ≡ (ofExpr r).strings
-  pub characters : (ofExpr e).characters ≡ (ofExpr r).characters
-  pub operand : exprCost r ≤ instrsANode * (ofExpr r).nodes
-
-pub unop-over : {t s : List ℕ} {m i j : ℕ} {e : Expr} (b : UnopAt t s m i e j) → Over b.r e
-unfolding ofExpr node
-unop-over b = rw b.is (record { nodes = omega arith; strings = refl; characters = refl; operand = expr-most b.r })

@@ -27,7 +27,7 @@ pub fn finish(
 ) -> Answer
     ensures { (answerTold result, tables sections.new instructions.new numbers.new strings.new pool.new names.new) ≡ Operations.finish (optionsTold options) tree.now (tables sections.old instructions.old numbers.old strings.old pool.old names.old) }
 {
-    let a = lower::lower(
+    let c = lower::lower(
         tree,
         options,
         sections,
@@ -36,12 +36,7 @@ pub fn finish(
         strings,
         pool,
         names,
-    );
-    match a {
-        Answer::Refused(n) => Answer::Refused(n),
-        Answer::Done(c) => {
-            let r = clean_and_combine(sections, instructions, c.sections, c.instructions);
-            Answer::Done(c.with_code(r.sections, r.instructions))
-        }
-    }
+    )?;
+    let r = clean_and_combine(sections, instructions, c.sections, c.instructions);
+    Ok(c.with_code(r.sections, r.instructions))
 }

@@ -5,7 +5,7 @@ use clean::pack::Room;
 use clean::remove_unfixed_sections::remove_unfixed_sections;
 use combine::combine_all;
 
-// n sections, e instructions; what is left of them is handed back.
+// n sections, e instructions; what is left of them is handed back. The tables are lent whole: the contract says what stands behind these, too.
 pub fn clean_and_combine(sections: &mut [u64], instructions: &mut [u64], n: usize, e: usize) -> Room
     requires { Lowered sections.old instructions.old n e }
     ensures { Finished sections.old instructions.old sections.new instructions.new n e result.sections result.instructions }
@@ -14,6 +14,6 @@ pub fn clean_and_combine(sections: &mut [u64], instructions: &mut [u64], n: usiz
     let left = combine_all(sections, instructions, r.sections, r.instructions);
     Room {
         sections: left,
-        instructions: r.instructions,
+        ..r
     }
 }

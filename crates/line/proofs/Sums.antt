@@ -4,8 +4,10 @@ use mathlib.Core.Bool.{Bool, false}
 use mathlib.Core.List.{List}
 use Prim.Native.Nat.{ℕ, zero, suc, ◌+◌, ◌-◌, ◌≤◌, ◌<◌, ◌^◌}
 use native.Mathlib.Omega.{arith}
-use native.Mathlib.Nat.{add-zero}
-use lib.ListN.{length, get_or}
+use lib.ListN.{length, get_or, take, drop}
+use Rattle.std.specs.List.{sum_by}
+use Rattle.std.proofs.lemmas.List.{drop_more}
+use Rattle.std.proofs.lemmas.List.Sums.{sum_by-cons}
 use Rattle.rules.specs.Constants.{mostBytes, nameBits}
 use Rattle.rules.specs.Tree.{Expr, Gt, Atan, Binop, Unop, Block, end, ite, assign}
 use Rattle.rules.specs.Parse.{binops, unops}
@@ -27,17 +29,16 @@ use Rattle.line.specs.Costs.{kindCost, nodeCost, costs}
 
 -- ---- ranges
 
--- one more at the end
-pub costs-more : (t : List ℕ) (i n : ℕ) → costs t i (n + 1) ≡ costs t i n + nodeCost (get_or t (i + n) 0)
+-- by the nodes themselves
+pub costs_sum : (t : List ℕ) (i n : ℕ) → i + n ≤ length t → costs t i n ≡ sum_by nodeCost (take n (drop i t))
 unfolding costs
-costs-more t i zero = omega (arith, ap (λ (k : ℕ). nodeCost (get_or t k 0)) (add-zero i))
-costs-more t i (suc n) =
-    let h = costs-more t (i + 1) n in
-    let e : i + 1 + n ≡ i + suc n = omega arith in
-    let f : suc n + 1 ≡ suc (n + 1) = omega arith in
-    rw f (omega (arith, h, ap (λ (k : ℕ). nodeCost (get_or t k 0)) e))
+costs_sum t i zero h = refl
+costs_sum t i (suc n) h =
+    let d = drop_more t i 0 (omega arith) in
+    let e = costs_sum t (i + 1) n (omega arith) in
+    rw (d, sum_by-cons nodeCost (get_or t i 0) (take n (drop (i + 1) t)), e) refl
 
-pub costs-both : (t : List ℕ) (i a b : ℕ) → costs t i (a + b) ≡ costs t i a + costs t (i + a) b
+costs-both : (t : List ℕ) (i a b : ℕ) → costs t i (a + b) ≡ costs t i a + costs t (i + a) b
 unfolding costs
 costs-both t i zero b =
     let e : 0 + b ≡ b = omega arith in
@@ -62,7 +63,7 @@ node-one : (t : List ℕ) (i j : ℕ) → j ≡ i + 1 → costs t i (j - i) ≡ 
 unfolding costs
 node-one t i j p = let e : j - i ≡ suc 0 = omega arith in rw e (omega arith)
 
-pub nothing : (t : List ℕ) (j : ℕ) → costs t j (j - j) ≡ 0
+nothing : (t : List ℕ) (j : ℕ) → costs t j (j - j) ≡ 0
 unfolding costs
 nothing t j = let e : j - j ≡ 0 = omega arith in rw e
 
@@ -103,13 +104,6 @@ expr-costs {t} {i = i} {j = j} a c (at-number p z l w k q) =
 expr-costs {t} {i = i} {j = j} a c (at-string n p x l w y k q) =
     let u = unpacked stringKind 0 n p _ 0 _ (omega arith) w in
     node-one t i j l ∙ cost-of _ stringKind 0 n 1 u.kind-is u.op-is u.name-is refl
-
--- a turn of the loop
-pub next-sum : (t : List ℕ) (i k n w : ℕ) → i ≤ k → n ≡ costs t i (k - i) → w ≡ nodeCost (get_or t k 0) → n + w ≡ costs t i (k + 1 - i)
-next-sum t i k n w h p q =
-    let e : k + 1 - i ≡ k - i + 1 = omega arith in
-    let f : i + (k - i) ≡ k = omega arith in
-    rw e (omega (arith, costs-more t i (k - i), ap (λ (x : ℕ). nodeCost (get_or t x 0)) f))
 
 -- ---- statements
 

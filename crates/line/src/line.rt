@@ -12,13 +12,13 @@ ghost use Rattle.stmts.specs.Makes.{placed};
 ghost use Rattle.line.specs.Lines.{LineReady, LineDone};
 
 use codegen::state::Counters;
-use nodes::layout::LAST;
-use stmts::sections::{Link, codegen_from_own, put_section};
+use nodes::node::Node;
+use stmts::sections::{Link, Place, codegen_from_own, put_section};
 use stmts::stmt::{codegen_and_link_stmts, codegen_from_inside, first_link, rest_link};
 use words::instr::Section;
 use words::section::SectionOrLine;
 
-// Both cursors behind a line, the counters, and the number behind its sections.
+// Where a line ended, and the next begins: the cursor of first sections, the counters, and the number behind its sections.
 #[derive(Clone, Copy)]
 pub struct LineEnd {
     pub head: usize,
@@ -30,12 +30,10 @@ pub struct LineEnd {
 fn with_cursor(c: Counters, at: usize) -> Counters
     ensures { result ≡ placed c at }
 {
-    let mut d = c;
-    d.at = at;
-    d
+    Counters { at, ..c }
 }
 
-// The line of `count` statements from node i on. Errors and the line's end go to the same line, the next.
+// The line of `count` statements from node i on, behind the lines that ended at `from`. Errors and the line's end go to the same line, the next.
 pub fn codegen_from_line(
     s: &[u8],
     nodes: &[u64],
@@ -49,87 +47,46 @@ pub fn codegen_from_line(
     count: usize,
     depth: usize,
     line: Section,
-    number: Section,
-    head: usize,
-    c: Counters,
+    from: LineEnd,
 ) -> LineEnd
-    requires { LineReady s.now nodes.now i count depth line.0 number.0 head c (length instrs.old) (length numbers.old) (length strings.old) (length pool.old) (length names.old) (length sections.old) }
-    ensures { (m : ℕ) (x : Block) (z : ℕ) → m ≤ 2 ^ nameBits → HoldsB nodes.now s.now m count i x z → LineDone m x line.0 number.0 head c (lent instrs.old numbers.old strings.old pool.old names.old) (lent instrs.new numbers.new strings.new pool.new names.new) sections.old sections.new result.head result.next result.number.0 }
+    requires { LineReady s.now nodes.now i count depth line.0 from.number.0 from.head from.next (length instrs.old) (length numbers.old) (length strings.old) (length pool.old) (length names.old) (length sections.old) }
+    ensures { (m : ℕ) (x : Block) (z : ℕ) → m ≤ 2 ^ nameBits → HoldsB nodes.now s.now m count i x z → LineDone m x line.0 from.number.0 from.head from.next (lent instrs.old numbers.old strings.old pool.old names.old) (lent instrs.new numbers.new strings.new pool.new names.new) sections.old sections.new result.head result.next result.number.0 }
 {
-    let next = c.err;
+    let c = from.next;
+    let start = true;
+    let head_place = Place { slot: line, start };
     if count == 0 {
-        put_section(
-            sections,
-            line,
-            true,
-            SectionOrLine::Section(next),
-            head,
-            head,
-        );
-        return LineEnd {
-            head,
-            next: c,
-            number,
-        };
+        let success = SectionOrLine::Section(c.err);
+        put_section(sections, head_place, success, from.head, from.head);
+        return from;
     }
-    let w = nodes[i];
+    let node = Node(nodes[i]);
     let link = Link {
         linked: true,
-        number,
-        next,
+        number: from.number,
+        next: c.err,
     };
-    let first = first_link(w, count, link);
+    let first = first_link(node, count, link);
+    let own = with_cursor(c, from.head);
     let d = codegen_from_own(
-        s,
-        nodes,
-        sections,
-        instrs,
-        numbers,
-        strings,
-        pool,
-        names,
-        i,
-        line,
-        true,
-        first,
-        with_cursor(c, head),
+        s, nodes, sections, instrs, numbers, strings, pool, names, i, head_place, first, own,
     );
-    let at = c.at;
-    put_section(sections, number, true, SectionOrLine::Unfixed, at, at);
+    let slot = from.number;
+    let placeholder = Place { slot, start };
+    put_section(sections, placeholder, SectionOrLine::Unfixed, c.at, c.at);
+    let behind = with_cursor(d, c.at);
     let e = codegen_from_inside(
-        s,
-        nodes,
-        sections,
-        instrs,
-        numbers,
-        strings,
-        pool,
-        names,
-        i,
-        depth,
-        first,
-        with_cursor(d, at),
+        s, nodes, sections, instrs, numbers, strings, pool, names, i, depth, first, behind,
     );
+    let others = rest_link(node, link);
+    let at = node.last();
+    let left = count - 1;
     let r = codegen_and_link_stmts(
-        s,
-        nodes,
-        sections,
-        instrs,
-        numbers,
-        strings,
-        pool,
-        names,
-        (w / LAST) as usize,
-        count - 1,
-        depth,
-        rest_link(w, link),
-        e,
+        s, nodes, sections, instrs, numbers, strings, pool, names, at, left, depth, others, e,
     );
-    let end = r.next;
-    let behind = r.number;
     LineEnd {
         head: d.at,
-        next: end,
-        number: behind,
+        next: r.next,
+        number: r.number,
     }
 }

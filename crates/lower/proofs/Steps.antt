@@ -30,8 +30,9 @@ use Rattle.replace.specs.Pass.{Ready, Rewrote}
 use Rattle.nodes.specs.Builds.{mostNodesOf}
 use Rattle.tree.specs.Files.{HoldsTree, Placed, Treed, TreeAt, TreeRead, sized, widths}
 use Rattle.tree.specs.declared.Sizes.{Sizes}
-use Rattle.tree.specs.declared.SizeAnswer.{SizeAnswer}
-use Rattle.tree.specs.declared.SizeAnswer.TheVariants.{Sized, Refused as No}
+use Rattle.std.specs.Prelude.{Result, Ok, Err}
+use Rattle.params.specs.declared.refusal.Refusal.{Refusal as Why}
+use Rattle.params.specs.Told.{numberOf}
 use Rattle.program.specs.Program.{over, Laid, TreeReady}
 use Rattle.lower.specs.Lower.{Limited, Given, Roomy, Assembled}
 use Rattle.lower.proofs.Words.{part-fits, part-whole}
@@ -80,11 +81,11 @@ rooms l u e =
 
 -- ---- the tree
 
-module _ {s t ls : List ℕ} {r : SizeAnswer} (h : TreeRead s t ls r) where
-  pub tree_ok : {z : Sizes} → r ≡ Sized z → Treed s t ls z
+module _ {s t ls : List ℕ} {r : Result Sizes Why} (h : TreeRead s t ls r) where
+  pub tree_ok : {z : Sizes} → r ≡ Ok z → Treed s t ls z
   tree_ok e = subst (TreeAt s t ls) e h.here
 
-  pub tree_no : {n : ℕ} → r ≡ No n → parse s ≡ refused n
+  pub tree_no : {n : Why} → r ≡ Err n → parse s ≡ refused (numberOf n)
   tree_no e = subst (TreeAt s t ls) e h.here
 
 module _ {s t ls : List ℕ} {z : Sizes} (h : Treed s t ls z) where

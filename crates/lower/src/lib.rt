@@ -5,6 +5,7 @@
 
 ghost use Rattle.std.specs.Prelude.{◌≡◌, ◌≤◌, length};
 ghost use Rattle.rules.specs.Bits.{ok};
+ghost use Rattle.rules.specs.Constants.{mostNodes};
 ghost use Rattle.rules.specs.Operations as Operations;
 ghost use Rattle.tables.specs.Lent.{countsTold, tables, answerTold};
 ghost use Rattle.program.specs.Program.{optionsTold};
@@ -12,19 +13,17 @@ ghost use Rattle.nodes.specs.Builds.{mostNodesOf};
 ghost use Rattle.lower.specs.Lower.{Roomy};
 
 use crate::room::{estimate, holds};
-use crate::zeros::zero_numbers;
 use params::limits::{MOST_LINES, MOST_NODES};
 use params::options::CodegenOptions;
-use params::refusal::NO_ROOM;
+use params::refusal::Refusal;
 use program::program::codegen_from_program;
 use replace::replace_duplicates::replace_duplicates;
 use tables::answer::Answer;
 use tables::counts::Counts;
 use tables::shift::zero;
-use tree::{SMALL_BYTES, SMALL_NODES, SizeAnswer, read_tree};
+use tree::{SMALL_BYTES, SMALL_NODES, read_tree};
 
 pub mod room;
-pub mod zeros;
 
 // The machine with its duplicates replaced, and zeros up to the estimates: strings, characters and names are as many as estimated. Of the
 // instructions lowering is lent what it may need.
@@ -63,16 +62,12 @@ fn lower_tree(
     let done = replace_duplicates(c, sections, instructions, numbers, strings);
     zero(sections, c.sections, room.sections);
     zero(instructions, c.instructions, room.instructions);
-    zero_numbers(numbers, c.numbers, room.numbers);
+    zero(numbers, c.numbers, room.numbers);
     Counts {
-        lines: c.lines,
-        sections: c.sections,
         instructions: done.instructions,
         numbers: done.numbers,
         strings: done.strings,
-        characters: c.characters,
-        values: c.values,
-        names: c.names,
+        ..c
     }
 }
 
@@ -93,29 +88,52 @@ fn lower_by(
     ensures { (answerTold result, tables sections.new instructions.new numbers.new strings.new pool.new names.new) ≡ Operations.lower (optionsTold options) s.now (tables sections.old instructions.old numbers.old strings.old pool.old names.old) }
 {
     let mut lines = [0u64; MOST_LINES];
-    let r = read_tree(s, nodes, &mut lines);
-    match r {
-        SizeAnswer::Sized(z) => {
-            let room = estimate(z);
-            if !holds(room, sections, instructions, numbers, strings, pool, names) {
-                return Answer::Refused(NO_ROOM);
-            }
-            Answer::Done(lower_tree(
-                s,
-                nodes,
-                &lines,
-                options,
-                room,
-                sections,
-                instructions,
-                numbers,
-                strings,
-                pool,
-                names,
-            ))
-        }
-        SizeAnswer::Refused(n) => Answer::Refused(n),
+    let size = read_tree(s, nodes, &mut lines)?;
+    let room = estimate(size);
+    if !holds(room, sections, instructions, numbers, strings, pool, names) {
+        return Err(Refusal::NoRoom);
     }
+    Ok(lower_tree(
+        s,
+        nodes,
+        &lines,
+        options,
+        room,
+        sections,
+        instructions,
+        numbers,
+        strings,
+        pool,
+        names,
+    ))
+}
+
+// With a node table of its own, of N words.
+fn lower_with<const N: usize>(
+    tree: &[u8],
+    options: CodegenOptions,
+    sections: &mut [u64],
+    instructions: &mut [u64],
+    numbers: &mut [i64],
+    strings: &mut [u32],
+    pool: &mut [u8],
+    names: &mut [u16],
+) -> Answer
+    requires { (mostNodesOf (length tree.now) ≤ N) × (N ≤ mostNodes) }
+    ensures { (answerTold result, tables sections.new instructions.new numbers.new strings.new pool.new names.new) ≡ Operations.lower (optionsTold options) tree.now (tables sections.old instructions.old numbers.old strings.old pool.old names.old) }
+{
+    let mut nodes = [0u64; N];
+    lower_by(
+        tree,
+        &mut nodes,
+        options,
+        sections,
+        instructions,
+        numbers,
+        strings,
+        pool,
+        names,
+    )
 }
 
 pub fn lower(
@@ -131,10 +149,8 @@ pub fn lower(
     ensures { (answerTold result, tables sections.new instructions.new numbers.new strings.new pool.new names.new) ≡ Operations.lower (optionsTold options) tree.now (tables sections.old instructions.old numbers.old strings.old pool.old names.old) }
 {
     if tree.len() <= SMALL_BYTES {
-        let mut few = [0u64; SMALL_NODES];
-        return lower_by(
+        lower_with::<SMALL_NODES>(
             tree,
-            &mut few,
             options,
             sections,
             instructions,
@@ -142,18 +158,17 @@ pub fn lower(
             strings,
             pool,
             names,
-        );
+        )
+    } else {
+        lower_with::<MOST_NODES>(
+            tree,
+            options,
+            sections,
+            instructions,
+            numbers,
+            strings,
+            pool,
+            names,
+        )
     }
-    let mut nodes = [0u64; MOST_NODES];
-    lower_by(
-        tree,
-        &mut nodes,
-        options,
-        sections,
-        instructions,
-        numbers,
-        strings,
-        pool,
-        names,
-    )
 }

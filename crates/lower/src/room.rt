@@ -34,7 +34,7 @@ pub fn estimate(z: Sizes) -> Counts
     }
 }
 
-// Does each lent table hold its estimate?
+// Does each lent table hold its estimate? The tables are lent to be written, and laid into a struct for this test they would be borrowed once more.
 #[tactic(auto, unfolding(rules::specs::Operations::holds))]
 pub fn holds(
     c: Counts,

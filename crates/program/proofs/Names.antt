@@ -6,7 +6,7 @@ use mathlib.Core.Option.{Option, none, some}
 use Prim.Native.Nat.{ℕ, zero, suc, ◌+◌, ◌≤◌, ◌<◌}
 use native.Mathlib.Numerals.{add-one}
 use native.Mathlib.Omega.{arith}
-use lib.ListN.{length, drop, set, replicate}
+use lib.ListN.{length, set, replicate}
 use Rattle.rules.specs.Constants.{mark}
 use Rattle.rules.specs.Tree.{Name}
 use Rattle.rules.specs.Lowered.{Options, nameWord, protects, nameWords}
@@ -18,14 +18,10 @@ use Rattle.program.specs.Names.{wordsTo, WordsTo}
 
 -- ---- cleared
 
-pub clear_more : (l : List ℕ) (k : ℕ) → k < length l → set (map regWord (replicate k none) ++ drop k l) k mark ≡ map regWord (replicate (k + 1) none) ++ drop (k + 1) l
+pub marks : (n : ℕ) → map regWord (replicate n none) ≡ replicate n mark
 unfolding regWord
-clear_more l k h = rw add-one (go l k h)
-  where
-    go : (l : List ℕ) (k : ℕ) → k < length l → set (map regWord (replicate k none) ++ drop k l) k mark ≡ map regWord (replicate (suc k) none) ++ drop (suc k) l
-    go [] k h = absurd (omega arith)
-    go (x ∷ l) zero h = refl
-    go (x ∷ l) (suc k) h = ap (λ m. mark ∷ m) (go l k (omega arith))
+marks zero = refl
+marks (suc n) = ap (λ l. mark ∷ l) (marks n)
 
 -- ---- protected
 
@@ -49,15 +45,15 @@ drops o s (suc n) zero p (some v ∷ vs) r l h e = rw e
 drops o s (suc n) (suc k) p (v ∷ vs) r l h e = ap (λ m. nameWord (protects o (nameAt s p).isGlobal) v ∷ m) (drops o s n k (nextName s p) vs r (omega arith) (omega arith) e)
 
 module _ {o : Options} {s : List ℕ} {n k : ℕ} {t t' : List ℕ} (w : WordsTo o s n k t t') where
-  pub word_kept : protects o (nameAt s (endAt s k firstName)).isGlobal ≡ true → WordsTo o s n (k + 1) t t'
-  word_kept e = record { are = λ x vs rest p l m i. w.are x vs rest p l m i ∙ rw (p.are, l, add-one) (ap (λ z. z ++ rest) (keeps o s n k firstName vs m e)) }
+  pub word-kept : protects o (nameAt s (endAt s k firstName)).isGlobal ≡ true → WordsTo o s n (k + 1) t t'
+  word-kept e = record { are = λ x vs rest p l m i. w.are x vs rest p l m i ∙ rw (p.are, l, add-one) (ap (λ z. z ++ rest) (keeps o s n k firstName vs m e)) }
 
-  pub word_dropped : k < n → protects o (nameAt s (endAt s k firstName)).isGlobal ≡ false → WordsTo o s n (k + 1) t (set t' k mark)
-  word_dropped h e = record { are = λ x vs rest p l m i. rw (w.are x vs rest p l m i, p.are, l, add-one) (drops o s n k firstName vs rest m h e) }
+  pub word-dropped : k < n → protects o (nameAt s (endAt s k firstName)).isGlobal ≡ false → WordsTo o s n (k + 1) t (set t' k mark)
+  word-dropped h e = record { are = λ x vs rest p l m i. rw (w.are x vs rest p l m i, p.are, l, add-one) (drops o s n k firstName vs rest m h e) }
 
-pub no_word : (o : Options) (s : List ℕ) (n : ℕ) (t : List ℕ) → WordsTo o s n 0 t t
+pub no-word : (o : Options) (s : List ℕ) (n : ℕ) (t : List ℕ) → WordsTo o s n 0 t t
 unfolding wordsTo
-no_word o s n t = record { are = λ x vs rest p l m i. i }
+no-word o s n t = record { are = λ x vs rest p l m i. i }
 
 -- all words
 words-all : (o : Options) (k : ℕ) (x : List Name) (vs : List (Option ℕ)) → length x ≡ k → length vs ≡ k → wordsTo o k x vs ≡ nameWords o x vs
@@ -69,17 +65,17 @@ words-all o (suc k) [] vs l m = absurd (omega arith)
 words-all o (suc k) (n ∷ ns) [] l m = absurd (omega arith)
 words-all o (suc k) (n ∷ ns) (v ∷ vs) l m = ap (λ z. nameWord (protects o n.isGlobal) v ∷ z) (words-all o k ns vs (omega arith) (omega arith))
 
-pub words_done : {o : Options} {s : List ℕ} {n k : ℕ} {t t' : List ℕ} → WordsTo o s n k t t' → n ≤ k → k ≤ n → (x : List Name) (vs : List (Option ℕ)) (rest : List ℕ) → Placed s x → length x ≡ n → length vs ≡ n → t ≡ map regWord vs ++ rest → t' ≡ nameWords o x vs ++ rest
-words_done {o} {k = k} w h g x vs rest p l m i = w.are x vs rest p l m i ∙ ap (λ z. z ++ rest) (words-all o k x vs (omega arith) (omega arith))
+pub words-done : {o : Options} {s : List ℕ} {n k : ℕ} {t t' : List ℕ} → WordsTo o s n k t t' → n ≤ k → k ≤ n → (x : List Name) (vs : List (Option ℕ)) (rest : List ℕ) → Placed s x → length x ≡ n → length vs ≡ n → t ≡ map regWord vs ++ rest → t' ≡ nameWords o x vs ++ rest
+words-done {o} {k = k} w h g x vs rest p l m i = w.are x vs rest p l m i ∙ ap (λ z. z ++ rest) (words-all o k x vs (omega arith) (omega arith))
 
 -- ---- where they stand
 
 -- the name behind k of n names: its flag and length lie before the end of all
-pub name_inside : (s : List ℕ) (n k p : ℕ) → k < n → endAt s k p + headerBits ≤ endAt s n p
+pub name-inside : (s : List ℕ) (n k p : ℕ) → k < n → endAt s k p + headerBits ≤ endAt s n p
 unfolding endAt
-name_inside s zero k p h = absurd (omega arith)
-name_inside s (suc n) zero p h = omega (arith, end-ge s n (nextName s p), next-gt s p)
-name_inside s (suc n) (suc k) p h = name_inside s n k (nextName s p) (omega arith)
+name-inside s zero k p h = absurd (omega arith)
+name-inside s (suc n) zero p h = omega (arith, end-ge s n (nextName s p), next-gt s p)
+name-inside s (suc n) (suc k) p h = name-inside s n k (nextName s p) (omega arith)
 
-pub name_next : (s : List ℕ) (k p : ℕ) → nextName s (endAt s k p) ≡ endAt s (k + 1) p
-name_next s k p = rw add-one (sym (end-snoc s k p))
+pub name-next : (s : List ℕ) (k p : ℕ) → nextName s (endAt s k p) ≡ endAt s (k + 1) p
+name-next s k p = rw add-one (sym (end-snoc s k p))

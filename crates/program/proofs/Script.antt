@@ -2,7 +2,7 @@
 use mathlib.Core.Path.{◌≡◌, refl, sym, ap, ◌∙◌}
 use mathlib.Core.Bool.{true}
 use mathlib.Core.List.{List, [], ◌∷◌, ◌++◌, map}
-use Prim.Native.Nat.{ℕ, suc, ◌+◌, ◌*◌, ◌/◌, ◌%◌, ◌≤◌, ◌<◌, ◌^◌}
+use Prim.Native.Nat.{ℕ, suc, ◌+◌, ◌*◌, ◌≤◌, ◌<◌, ◌^◌}
 use native.Mathlib.Nat.{add-zero}
 use native.Mathlib.Numerals.{add-one}
 use native.Mathlib.Omega.{arith}
@@ -195,10 +195,10 @@ lines-more {m} {L} {k} {k1} x bs cs {n} {n1} {n2} {head} {h1} {h2} {c} {d} {c1} 
 
 -- ---- line by line: the sum of their costs
 
-pub costs_on : {t ls : List ℕ} {L k sum cost : ℕ} → CostsMid t ls L k sum → k < L
+pub costs-on : {t ls : List ℕ} {L k sum cost : ℕ} → CostsMid t ls L k sum → k < L
     → ((s : List ℕ) (m : ℕ) (x : Block) (z : ℕ) → length s ≤ mostBytes → m ≤ 2 ^ nameBits → HoldsB t s m (countIn (get_or ls k 0)) (firstIn (get_or ls k 0)) x z → cost ≡ ownCost x)
     → CostsMid t ls L (k + 1) (sum + cost)
-costs_on c h f =
+costs-on c h f =
     record {
       sums = λ s m bs i z a b q.
           let u = c.sums s m bs i z a b q in
@@ -206,9 +206,9 @@ costs_on c h f =
           record { rest = lh.others; first = lh.last; held = lh.behind; all = omega (arith, u.all, lh.sum.own, f s m lh.block lh.last a b lh.here) };
     }
 
-pub costs_end : {t ls s : List ℕ} {L k sum m i z : ℕ} {bs : List Block} → CostsMid t ls L k sum → k ≡ L → length s ≤ mostBytes → m ≤ 2 ^ nameBits → HoldsL t ls s m 0 i bs L z → sum ≡ ownCosts bs
+pub costs-end : {t ls s : List ℕ} {L k sum m i z : ℕ} {bs : List Block} → CostsMid t ls L k sum → k ≡ L → length s ≤ mostBytes → m ≤ 2 ^ nameBits → HoldsL t ls s m 0 i bs L z → sum ≡ ownCosts bs
 unfolding ownCosts
-costs_end {sum = sum} c e a b h =
+costs-end {sum = sum} c e a b h =
     let u = c.sums _ _ _ _ _ a b h in
     let n : ownCosts u.rest ≡ 0 = rw (no-lines e u.held).is refl in
     omega (arith, u.all, n)

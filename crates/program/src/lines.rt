@@ -2,6 +2,8 @@
 //
 // `head_costs` is shown to count the own instructions of the lines' first statements, `codegen_from_lines` to make the sections that `heads`
 // and `tails` of `rules` say (`LinesDone`). A caller owes the tables of nodes and lines, and room.
+//
+// The count of lines stands beside their table: C lends a longer one, and `HoldsL` is of the lent table and a count.
 ghost use Rattle.std.specs.Prelude.{◌≡◌, List, ℕ, ◌≤◌, ◌<◌, ◌/◌, ◌%◌, length, ◌^◌};
 ghost use Rattle.rules.specs.Constants.{mostBytes, nameBits, mostLines};
 ghost use Rattle.rules.specs.Tree.{Block};
@@ -20,28 +22,45 @@ use params::limits::MOST_DEPTH;
 use tree::LINE_COUNTS;
 use words::instr::Section;
 
-// How many instructions the first statement of a line emits itself; an empty line has none.
-fn head_cost(nodes: &[u64], w: u64) -> usize
-    requires { ListAt nodes.now (firstIn w) (countIn w) }
-    ensures { (s : List ℕ) (m : ℕ) (x : Block) (z : ℕ) → length s ≤ mostBytes → m ≤ 2 ^ nameBits → HoldsB nodes.now s m (countIn w) (firstIn w) x z → result ≡ ownCost x }
-{
-    if w % LINE_COUNTS == 0 {
-        return 0;
+// A line's word.
+#[derive(Clone, Copy)]
+struct LineWord(u64);
+
+impl LineWord {
+    // How many statements it has.
+    fn count(self) -> usize
+        ensures { result ≡ countIn self.0 }
+    {
+        (self.0 % LINE_COUNTS) as usize
     }
-    own_cost(nodes, (w / LINE_COUNTS) as usize)
+
+    // Its first node.
+    fn first(self) -> usize
+        ensures { result ≡ firstIn self.0 }
+    {
+        (self.0 / LINE_COUNTS) as usize
+    }
 }
 
-// And so of all lines.
-#[tactic(auto, using(crate::proofs::Script::costs_on, crate::proofs::Script::costs_end))]
+// How many instructions the first statement of a line emits itself; an empty line has none.
+fn head_cost(nodes: &[u64], line: LineWord) -> usize
+    requires { ListAt nodes.now (firstIn line.0) (countIn line.0) }
+    ensures { (s : List ℕ) (m : ℕ) (x : Block) (z : ℕ) → length s ≤ mostBytes → m ≤ 2 ^ nameBits → HoldsB nodes.now s m (countIn line.0) (firstIn line.0) x z → result ≡ ownCost x }
+{
+    if line.count() == 0 {
+        return 0;
+    }
+    own_cost(nodes, line.first())
+}
+
+// And so of all lines. A loop, no `sum`: `head_cost` asks that its line is held, which a closure over any word cannot say.
 pub fn head_costs(nodes: &[u64], lines: &[u64], count: usize) -> usize
     requires { LinesAt nodes.now lines.now count }
     ensures { (s : List ℕ) (m : ℕ) (bs : List Block) (i z : ℕ) → length s ≤ mostBytes → m ≤ 2 ^ nameBits → HoldsL nodes.now lines.now s m 0 i bs count z → result ≡ ownCosts bs }
 {
-    let mut sum: usize = 0;
-    let mut k: usize = 0;
-    while k < count {
-        sum += head_cost(nodes, lines[k]);
-        k += 1;
+    let mut sum = 0;
+    for &w in &lines[..count] {
+        sum += head_cost(nodes, LineWord(w));
     }
     sum
 }
@@ -61,17 +80,10 @@ fn next_line(k: usize, count: usize) -> Section
 fn aimed_at(c: Counters, err: Section) -> Counters
     ensures { result ≡ aimedAt c err }
 {
-    Counters {
-        at: c.at,
-        numbers: c.numbers,
-        strings: c.strings,
-        chars: c.chars,
-        values: c.values,
-        err,
-    }
+    Counters { err, ..c }
 }
 
-// All lines. No Ite nests deeper than the limit of depth.
+// All lines, from `from` on. No Ite nests deeper than the limit of depth.
 pub fn codegen_from_lines(
     s: &[u8],
     nodes: &[u64],
@@ -83,40 +95,23 @@ pub fn codegen_from_lines(
     pool: &mut [u8],
     names: &mut [u16],
     count: usize,
-    number: Section,
-    head: usize,
-    c: Counters,
+    from: LineEnd,
 ) -> LineEnd
-    requires { LinesReady s.now nodes.now lines.now 0 count number.0 head c (length instrs.old) (length numbers.old) (length strings.old) (length pool.old) (length names.old) (length sections.old) }
-    ensures { (m : ℕ) (bs : List Block) (i z : ℕ) → m ≤ 2 ^ nameBits → HoldsL nodes.now lines.now s.now m 0 i bs count z → LinesDone m count 0 bs number.0 head c (lent instrs.old numbers.old strings.old pool.old names.old) (lent instrs.new numbers.new strings.new pool.new names.new) sections.old sections.new result.head result.next result.number.0 }
+    requires { LinesReady s.now nodes.now lines.now 0 count from.number.0 from.head from.next (length instrs.old) (length numbers.old) (length strings.old) (length pool.old) (length names.old) (length sections.old) }
+    ensures { (m : ℕ) (bs : List Block) (i z : ℕ) → m ≤ 2 ^ nameBits → HoldsL nodes.now lines.now s.now m 0 i bs count z → LinesDone m count 0 bs from.number.0 from.head from.next (lent instrs.old numbers.old strings.old pool.old names.old) (lent instrs.new numbers.new strings.new pool.new names.new) sections.old sections.new result.head result.next result.number.0 }
 {
-    let mut done = LineEnd {
-        head,
-        next: c,
-        number,
-    };
-    let mut k: usize = 0;
-    while k < count {
-        let w = lines[k];
-        let next = done.next;
+    let mut done = from;
+    for (k, &w) in lines[..count].iter().enumerate() {
+        let line = LineWord(w);
+        let at = line.first();
+        let statements = line.count();
+        let slot = Section(k as u16);
+        let next = aimed_at(done.next, next_line(k, count));
+        let here = LineEnd { next, ..done };
         done = codegen_from_line(
-            s,
-            nodes,
-            sections,
-            instrs,
-            numbers,
-            strings,
-            pool,
-            names,
-            (w / LINE_COUNTS) as usize,
-            (w % LINE_COUNTS) as usize,
-            MOST_DEPTH,
-            Section(k as u16),
-            done.number,
-            done.head,
-            aimed_at(next, next_line(k, count)),
+            s, nodes, sections, instrs, numbers, strings, pool, names, at, statements, MOST_DEPTH,
+            slot, here,
         );
-        k += 1;
     }
     done
 }

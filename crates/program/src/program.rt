@@ -12,6 +12,7 @@ ghost use Rattle.program.specs.Program.{optionsTold, TreeReady, Laid};
 use crate::lines::{codegen_from_lines, head_costs};
 use crate::name_words::{clear_names, protect_names};
 use codegen::state::Counters;
+use line::line::LineEnd;
 use params::options::CodegenOptions;
 use tables::counts::Counts;
 use words::instr::Section;
@@ -43,31 +44,24 @@ pub fn codegen_from_program(
         values: 0,
         err: Section(0),
     };
+    let from = LineEnd {
+        head: 0,
+        next: first,
+        number: Section(line_count as u16),
+    };
     let r = codegen_from_lines(
-        s,
-        nodes,
-        lines,
-        sections,
-        instrs,
-        numbers,
-        strings,
-        pool,
-        names,
-        line_count,
-        Section(line_count as u16),
-        0,
-        first,
+        s, nodes, lines, sections, instrs, numbers, strings, pool, names, line_count, from,
     );
     protect_names(s, names, name_count, options);
     let c = r.next;
     Counts {
         lines: line_count,
-        sections: r.number.0 as usize,
+        sections: usize::from(r.number.0),
         instructions: c.at,
-        numbers: c.numbers as usize,
-        strings: c.strings as usize,
-        characters: c.chars as usize,
-        values: c.values as usize,
+        numbers: usize::from(c.numbers),
+        strings: usize::from(c.strings),
+        characters: usize::from(c.chars),
+        values: usize::from(c.values),
         names: name_count,
     }
 }

@@ -19,7 +19,7 @@ use Rattle.nodes.proofs.Table.{grows, grows-b}
 use Rattle.nodes.proofs.Exprs.{op-small}
 use Rattle.nodes.proofs.Blocks.{is-end, is-goto, is-ite, is-step, is-assign, tag, kind-held}
 use Rattle.laws.specs.Lists.{at-elem}
-use Rattle.exprs.proofs.Trees.{last-held, begins, ends}
+use Rattle.exprs.proofs.Trees.{last-held, begins, ends, no-kind}
 use Rattle.stmts.specs.Lists.{isEnd, entryBy, deep}
 
 -- ---- entries
@@ -96,6 +96,19 @@ assign-at a h k =
       value = ends f.here (begins b.next b.value);
     }
 
+-- what an Ite counts
+pub record Sum (e : Expr) (x y b : Block) : Type 0 where
+  pub nodes : (ofBlock b).nodes ≡ 1 + (ofExpr e).nodes + (ofBlock x).nodes + (ofBlock y).nodes
+  pub strings : (ofBlock b).strings ≡ (ofExpr e).strings + (ofBlock x).strings + (ofBlock y).strings
+  pub characters : (ofBlock b).characters ≡ (ofExpr e).characters + (ofBlock x).characters + (ofBlock y).characters
+  pub widths : width b ≡ 2 + orOne (width x) + orOne (width y)
+  pub deep-then : deep x < deep b
+  pub deep-else : deep y < deep b
+
+ite-sum : (e : Expr) (x y b : Block) → b ≡ ite e x y end → Sum e x y b
+unfolding ofBlock statement node both emptyTally width deep
+ite-sum e x y b q = rw q (record { nodes = omega arith; strings = omega arith; characters = omega arith; widths = omega arith; deep-then = omega arith; deep-else = omega arith })
+
 pub record IteAt (t s : List ℕ) (m i : ℕ) (x : Block) (z : ℕ) : Type 0 where
   pub e : Expr
   pub yes : Block
@@ -112,6 +125,7 @@ pub record IteAt (t s : List ℕ) (m i : ℕ) (x : Block) (z : ℕ) : Type 0 whe
   pub first : i + 1 < lastIn (get_or t (i + 1) 0)
   pub second : lastIn (get_or t (i + 1) 0) ≤ mid
   pub third : mid ≤ z
+  pub sum : Sum e yes no x
 
 pub ite-at : {t s : List ℕ} {m i z : ℕ} {x : Block} → length s ≤ mostBytes → m ≤ 2 ^ nameBits → HoldsB t s m 1 i x z → kindIn (get_or t i 0) ≡ iteKind → IteAt t s m i x z
 ite-at a c h k =
@@ -131,12 +145,13 @@ ite-at a c h k =
     let e' = ends q e in
     let t' = held (sym u.name-is) q refl b.then in
     let f' = held (sym (ap (λ (j : ℕ). j % 64) u.pos-is ∙ p1)) refl f.here b.else in
+    let o = b.is ∙ ap (ite b.e b.th b.el) f.is in
     record {
       e = b.e;
       yes = b.th;
       no = b.el;
       mid = b.third;
-      is = b.is ∙ ap (ite b.e b.th b.el) f.is;
+      is = o;
       test = e';
       then-held = t';
       else-held = f';
@@ -147,10 +162,11 @@ ite-at a c h k =
       first = grows e';
       second = grows-b t';
       third = grows-b f';
+      sum = ite-sum b.e b.th b.el _ o;
     }
 
 -- what is none of the other kinds is an Ite
-pub else-ite : {t s : List ℕ} {m i z : ℕ} {x : Block} → HoldsB t s m 1 i x z → (kindIn (get_or t i 0) ≡ gotoKind → ⊥) → (kindIn (get_or t i 0) ≡ stepKind → ⊥) → (kindIn (get_or t i 0) ≡ assignKind → ⊥) → kindIn (get_or t i 0) ≡ iteKind
+else-ite : {t s : List ℕ} {m i z : ℕ} {x : Block} → HoldsB t s m 1 i x z → (kindIn (get_or t i 0) ≡ gotoKind → ⊥) → (kindIn (get_or t i 0) ≡ stepKind → ⊥) → (kindIn (get_or t i 0) ≡ assignKind → ⊥) → kindIn (get_or t i 0) ≡ iteKind
 unfolding tag
 else-ite {t} {i = i} {x = x} h a b c = by x (isEnd x) refl (not-end h (λ z. omega arith)) (kind-held (omega arith) h)
   where
@@ -161,19 +177,11 @@ else-ite {t} {i = i} {x = x} h a b c = by x (isEnd x) refl (not-end h (λ z. ome
     by (Block.incdec f y xs) v o n z = absurd (b z)
     by (assign y o1 e xs) v o n z = absurd (c z)
 
+pub else-at : {t s : List ℕ} {m i z : ℕ} {x : Block} {a b c : Bool} → length s ≤ mostBytes → m ≤ 2 ^ nameBits → HoldsB t s m 1 i x z
+    → a ≡ eqb (kindIn (get_or t i 0)) gotoKind → a ≡ false → b ≡ eqb (kindIn (get_or t i 0)) stepKind → b ≡ false → c ≡ eqb (kindIn (get_or t i 0)) assignKind → c ≡ false → IteAt t s m i x z
+else-at l m h a p b q c r = ite-at l m h (else-ite h (no-kind a p) (no-kind b q) (no-kind c r))
+
 -- ---- what the statement counts
-
-pub record Sum (e : Expr) (x y b : Block) : Type 0 where
-  pub nodes : (ofBlock b).nodes ≡ 1 + (ofExpr e).nodes + (ofBlock x).nodes + (ofBlock y).nodes
-  pub strings : (ofBlock b).strings ≡ (ofExpr e).strings + (ofBlock x).strings + (ofBlock y).strings
-  pub characters : (ofBlock b).characters ≡ (ofExpr e).characters + (ofBlock x).characters + (ofBlock y).characters
-  pub widths : width b ≡ 2 + orOne (width x) + orOne (width y)
-  pub deep-then : deep x < deep b
-  pub deep-else : deep y < deep b
-
-pub ite-sum : (e : Expr) (x y b : Block) → b ≡ ite e x y end → Sum e x y b
-unfolding ofBlock statement node both emptyTally width deep
-ite-sum e x y b q = rw q (record { nodes = omega arith; strings = omega arith; characters = omega arith; widths = omega arith; deep-then = omega arith; deep-else = omega arith })
 
 -- a statement with an expression and no lists, and one without either
 pub record One (n s h : ℕ) (b : Block) : Type 0 where

@@ -45,7 +45,7 @@ pub record Split (t s : List ℕ) (m n i : ℕ) (x : Block) (z : ℕ) : Type 0 w
   pub first : i < lastIn (get_or t i 0)
   pub second : lastIn (get_or t i 0) ≤ z
 
-counts : {t s : List ℕ} {m n n' i z : ℕ} {x : Block} → n ≡ n' → HoldsB t s m n i x z → HoldsB t s m n' i x z
+pub counts : {t s : List ℕ} {m n n' i z : ℕ} {x : Block} → n ≡ n' → HoldsB t s m n i x z → HoldsB t s m n' i x z
 counts p h = rw p at h
 
 pub starts : {t s : List ℕ} {m n i i' z : ℕ} {x : Block} → i ≡ i' → HoldsB t s m n i x z → HoldsB t s m n i' x z
@@ -135,7 +135,7 @@ split a c h (at-assign y op o p b w k q e xs) =
       second = omega (arith, u.last-is);
     }
 
--- ---- a held list: its first statement and the others are held, and it is held at any equal node
+-- ---- a held list: its first statement and the others are held, and it is held at any equal node and of any equal count
 
 module _ {s t : List ℕ} {i n depth : ℕ} (p : Held s t i n depth) where
   pub cut : 0 < n → Split t s p.known n i p.block p.last
@@ -151,6 +151,9 @@ module _ {s t : List ℕ} {i n depth : ℕ} (p : Held s t i n depth) where
 
   abbrev pub moved : {k : ℕ} → k ≡ i → Held s t k n depth
   moved e = record { known = p.known; block = p.block; last = p.last; held = starts (sym e) p.held; inside = p.inside; short = p.short; few = p.few; shallow = p.shallow }
+
+  abbrev pub counted : {k : ℕ} → k ≡ n → Held s t i k depth
+  counted e = record { known = p.known; block = p.block; last = p.last; held = counts (sym e) p.held; inside = p.inside; short = p.short; few = p.few; shallow = p.shallow }
 
 -- a list of one statement is that statement
 pub one-only : {t s : List ℕ} {m i z : ℕ} {x : Block} → HoldsB t s m 1 i x z → only x ≡ x

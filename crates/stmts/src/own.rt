@@ -2,6 +2,9 @@
 //
 // Each function is shown to do what the step of its name in `rules` (Annotate) does, for the expression that the node table holds. A caller
 // owes the table and room (`Holding`).
+//
+// The file, the nodes and the six lent tables stay parameters of their own, here and in the crates above: a struct of lent tables would say of
+// each function that it keeps those that it does not touch. So what is owed of them is asked by clauses.
 ghost use Rattle.std.specs.Prelude.{◌≡◌, ℕ, ◌+◌, ◌^◌, ◌≤◌, ◌<◌, length, get_or};
 ghost use Rattle.rules.specs.Constants.{nameBits};
 ghost use Rattle.rules.specs.Tree as Tree;
@@ -18,9 +21,9 @@ ghost use Rattle.exprs.specs.Exprs.{LowersTo};
 ghost use Rattle.stmts.specs.Own.{Holding, Setting};
 
 use codegen::operators::{make_arith_binop, make_truthy, numberify};
-use codegen::state::{Counters, GotNum, emit, get_variable};
+use codegen::state::{Counters, Got, emit, get_variable};
 use exprs::codegen_from_expr;
-use words::instr::{Instruction, ValReg};
+use words::instr::{Instruction, NumReg, ValReg};
 
 // The operator of an assignment, in the order of the file's numbers.
 #[derive(Clone, Copy)]
@@ -34,19 +37,26 @@ pub enum Assignop {
     PowTo,
 }
 
-#[tactic(auto, unfolding(rules::specs::Parse::assignops))]
-pub fn assignop_of(k: u64) -> Assignop
-    requires { k < 7 }
-    ensures { assignTold result ≡ get_or assignops k Tree.PowTo }
-{
-    match k {
-        0 => Assignop::Plain,
-        1 => Assignop::AddTo,
-        2 => Assignop::SubTo,
-        3 => Assignop::MulTo,
-        4 => Assignop::DivTo,
-        5 => Assignop::ModTo,
-        _ => Assignop::PowTo,
+// The operator of a number in a tree file; one past the last counts as the last.
+impl Assignop {
+    const ALL: [Assignop; 7] = [
+        Assignop::Plain,
+        Assignop::AddTo,
+        Assignop::SubTo,
+        Assignop::MulTo,
+        Assignop::DivTo,
+        Assignop::ModTo,
+        Assignop::PowTo,
+    ];
+
+    #[tactic(auto, unfolding(rules::specs::Parse::assignops))]
+    pub fn of(k: u64) -> Assignop
+        ensures { assignTold result ≡ get_or assignops k Tree.PowTo }
+    {
+        Self::ALL
+            .get(k as usize)
+            .copied()
+            .unwrap_or(Assignop::PowTo)
     }
 }
 
@@ -68,7 +78,7 @@ fn store(
     emit(
         instrs,
         o.next,
-        Instruction::val_val(Instruction::COPY_VAL, o.reg, v),
+        Instruction::of_two(Instruction::COPY_VAL, o.reg, v),
     )
 }
 
@@ -87,9 +97,9 @@ pub fn assign_by(
     ensures does { DoesBoth (assignBy (assignTold op) v.0 e.0) c instrs.old instrs.new numbers.old numbers.new 0 result }
 {
     match op {
-        Assignop::Plain => emit(instrs, c, Instruction::val_val(Instruction::COPY_VAL, e, v)),
-        Assignop::AddTo => emit(instrs, c, Instruction::val_val(Instruction::ADD_VAL, v, e)),
-        Assignop::SubTo => emit(instrs, c, Instruction::val_val(Instruction::SUB_VAL, v, e)),
+        Assignop::Plain => emit(instrs, c, Instruction::of_two(Instruction::COPY_VAL, e, v)),
+        Assignop::AddTo => emit(instrs, c, Instruction::of_two(Instruction::ADD_VAL, v, e)),
+        Assignop::SubTo => emit(instrs, c, Instruction::of_two(Instruction::SUB_VAL, v, e)),
         Assignop::MulTo => store(instrs, numbers, c, Instruction::MUL, v, e),
         Assignop::DivTo => store(instrs, numbers, c, Instruction::DIV, v, e),
         Assignop::ModTo => store(instrs, numbers, c, Instruction::REM, v, e),
@@ -97,7 +107,7 @@ pub fn assign_by(
     }
 }
 
-// An Assign to the name x by operator number op: its expression, at node i, is lowered before its name is met.
+// An Assign to the name x by the operator op: its expression, at node i, is lowered before its name is met.
 pub fn codegen_from_assign(
     s: &[u8],
     nodes: &[u64],
@@ -109,17 +119,18 @@ pub fn codegen_from_assign(
     i: usize,
     c: Counters,
     x: usize,
-    op: u64,
+    op: Assignop,
 ) -> Counters
-    requires { Setting s.now nodes.now i c x (length instrs.old) (length numbers.old) (length strings.old) (length pool.old) (length names.old) × (op < 7) }
-    ensures { (m : ℕ) (e : Tree.Expr) (j : ℕ) → m ≤ 2 ^ nameBits → x < m → HoldsE nodes.now s.now m i e j → LowersTo (codegenFromAssign x (get_or assignops op Tree.PowTo) e) m e (assignCost (get_or assignops op Tree.PowTo)) 2 2 c (lent instrs.old numbers.old strings.old pool.old names.old) (lent instrs.new numbers.new strings.new pool.new names.new) 0 result }
+    requires { Setting s.now nodes.now i c x (length instrs.old) (length numbers.old) (length strings.old) (length pool.old) (length names.old) }
+    ensures { (m : ℕ) (e : Tree.Expr) (j : ℕ) → m ≤ 2 ^ nameBits → x < m → HoldsE nodes.now s.now m i e j → LowersTo (codegenFromAssign x (assignTold op) e) m e (assignCost (assignTold op)) 2 2 c (lent instrs.old numbers.old strings.old pool.old names.old) (lent instrs.new numbers.new strings.new pool.new names.new) 0 result }
 {
     let e = codegen_from_expr(s, nodes, instrs, numbers, strings, pool, names, i, c);
     let v = get_variable(names, e.next, x);
-    assign_by(instrs, numbers, v.next, assignop_of(op), v.reg, e.reg)
+    assign_by(instrs, numbers, v.next, op, v.reg, e.reg)
 }
 
-// A Goto's line, as a number register.
+// A Goto's line, as a number register. It and `condition` stay apart: each is one step behind the expression, and a step that is passed in
+// would bring its whole contract.
 pub fn line_number(
     s: &[u8],
     nodes: &[u64],
@@ -130,7 +141,7 @@ pub fn line_number(
     names: &mut [u16],
     i: usize,
     c: Counters,
-) -> GotNum
+) -> Got<NumReg>
     requires { Holding s.now nodes.now i c 2 1 0 (length instrs.old) (length numbers.old) (length strings.old) (length pool.old) (length names.old) }
     ensures { (m : ℕ) (e : Tree.Expr) (j : ℕ) → m ≤ 2 ^ nameBits → HoldsE nodes.now s.now m i e j → LowersTo (lineNumber e) m e 2 1 0 c (lent instrs.old numbers.old strings.old pool.old names.old) (lent instrs.new numbers.new strings.new pool.new names.new) result.reg.0 result.next }
 {
@@ -149,7 +160,7 @@ pub fn condition(
     names: &mut [u16],
     i: usize,
     c: Counters,
-) -> GotNum
+) -> Got<NumReg>
     requires { Holding s.now nodes.now i c 1 1 0 (length instrs.old) (length numbers.old) (length strings.old) (length pool.old) (length names.old) }
     ensures { (m : ℕ) (e : Tree.Expr) (j : ℕ) → m ≤ 2 ^ nameBits → HoldsE nodes.now s.now m i e j → LowersTo (conditionS e) m e 1 1 0 c (lent instrs.old numbers.old strings.old pool.old names.old) (lent instrs.new numbers.new strings.new pool.new names.new) result.reg.0 result.next }
 {

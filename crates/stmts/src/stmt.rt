@@ -9,6 +9,7 @@ ghost use Rattle.std.specs.Prelude.{◌≡◌, ℕ, ◌+◌, ◌^◌, ◌-◌, �
 ghost use Rattle.rules.specs.Constants.{nameBits, mostCount};
 ghost use Rattle.rules.specs.Tree.{Block};
 ghost use Rattle.nodes.specs.Holds.{HoldsB};
+ghost use Rattle.nodes.specs.Words.{elseCount, elseWidth, nameIn, widthIn};
 ghost use Rattle.nodes.specs.Width.{width};
 ghost use Rattle.codegen.specs.Does.{lent};
 ghost use Rattle.stmts.specs.Lists.{madeBy, linkedBy, entryBy, ListReady, ListDone, BranchReady, BranchDone, IteReady, IteDone};
@@ -16,8 +17,8 @@ ghost use Rattle.stmts.specs.Parts.{InsideReady, InsideDone};
 
 use crate::sections::{Link, Place, codegen_from_own, put_section, successor};
 use codegen::state::Counters;
-use nodes::kinds::{GOTO, ITE};
-use nodes::layout::{COUNTS, KINDS, LAST, NAME, NAMES, POS, POSITIONS, WIDTH, WIDTHS};
+use nodes::kinds::NodeKind;
+use nodes::node::Node;
 use words::instr::Section;
 use words::section::SectionOrLine;
 
@@ -29,58 +30,46 @@ pub struct Ended {
     pub number: Section,
 }
 
-// How many sections the statement with the word w makes.
+// How many sections a statement makes.
 #[tactic(auto, unfolding(crate::specs::Lists::madeBy))]
-fn made(w: u64) -> u16
-    ensures { result ≡ madeBy w }
+fn made(node: Node) -> u16
+    ensures { result ≡ madeBy node.0 }
 {
-    if w % KINDS == ITE {
-        return (2 + w / WIDTH % WIDTHS + w / POS % POSITIONS / COUNTS) as u16;
+    if node.is(NodeKind::Ite) {
+        return 2 + node.width() + node.else_width();
     }
     1
 }
 
-// The place of a list's first statement: it goes on to the others, if there are any.
+// The link of a list's first statement: it goes on to the others, if there are any.
 #[tactic(auto, unfolding(crate::specs::Lists::entryBy))]
-pub fn first_link(w: u64, count: usize, link: Link) -> Link
-    requires { link.number.0 + madeBy w ≤ mostCount }
+pub fn first_link(node: Node, count: usize, link: Link) -> Link
+    requires { link.number.0 + madeBy node.0 ≤ mostCount }
     ensures linked { result.linked ≡ link.linked }
     ensures number { result.number.0 ≡ link.number.0 }
-    ensures next { result.next.0 ≡ entryBy count (link.number.0 + madeBy w) link.next.0 }
+    ensures next { result.next.0 ≡ entryBy count (link.number.0 + madeBy node.0) link.next.0 }
 {
     if count == 1 {
         return link;
     }
-    let number = link.number;
-    let next = Section(number.0 + made(w));
     Link {
-        linked: link.linked,
-        number,
-        next,
+        next: Section(link.number.0 + made(node)),
+        ..link
     }
 }
 
-// The place of the others: behind a Goto they are not linked.
+// The link of the others: behind a Goto they are not linked.
 #[tactic(auto, unfolding(crate::specs::Lists::linkedBy))]
-pub fn rest_link(w: u64, link: Link) -> Link
-    requires { link.number.0 + madeBy w ≤ mostCount }
-    ensures linked { result.linked ≡ linkedBy w link.linked }
-    ensures number { result.number.0 ≡ link.number.0 + madeBy w }
+pub fn rest_link(node: Node, link: Link) -> Link
+    requires { link.number.0 + madeBy node.0 ≤ mostCount }
+    ensures linked { result.linked ≡ linkedBy node.0 link.linked }
+    ensures number { result.number.0 ≡ link.number.0 + madeBy node.0 }
     ensures next { result.next.0 ≡ link.next.0 }
 {
-    let number = Section(link.number.0 + made(w));
-    let next = link.next;
-    if w % KINDS == GOTO {
-        return Link {
-            linked: false,
-            number,
-            next,
-        };
-    }
     Link {
-        linked: link.linked,
-        number,
-        next,
+        linked: link.linked && !node.is(NodeKind::Goto),
+        number: Section(link.number.0 + made(node)),
+        ..link
     }
 }
 
@@ -103,20 +92,12 @@ pub fn codegen_from_stmt(
     requires { ListReady s.now nodes.now i 1 depth link.number.0 c (length instrs.old) (length numbers.old) (length strings.old) (length pool.old) (length names.old) (length sections.old) }
     ensures { (m : ℕ) (x : Block) (z : ℕ) → m ≤ 2 ^ nameBits → HoldsB nodes.now s.now m 1 i x z → ListDone m x z link.linked link.number.0 link.next.0 c (lent instrs.old numbers.old strings.old pool.old names.old) (lent instrs.new numbers.new strings.new pool.new names.new) sections.old sections.new result z (link.number.0 + width x) }
 {
+    let place = Place {
+        slot: link.number,
+        start: false,
+    };
     let d = codegen_from_own(
-        s,
-        nodes,
-        sections,
-        instrs,
-        numbers,
-        strings,
-        pool,
-        names,
-        i,
-        link.number,
-        false,
-        link,
-        c,
+        s, nodes, sections, instrs, numbers, strings, pool, names, i, place, link, c,
     );
     codegen_from_inside(
         s, nodes, sections, instrs, numbers, strings, pool, names, i, depth, link, d,
@@ -142,41 +123,21 @@ pub fn codegen_from_inside(
     requires { InsideReady s.now nodes.now i depth link.number.0 c (length instrs.old) (length numbers.old) (length strings.old) (length pool.old) (length names.old) (length sections.old) }
     ensures { (m : ℕ) (x : Block) (z : ℕ) → m ≤ 2 ^ nameBits → HoldsB nodes.now s.now m 1 i x z → InsideDone m x link.linked link.number.0 link.next.0 c (lent instrs.old numbers.old strings.old pool.old names.old) (lent instrs.new numbers.new strings.new pool.new names.new) sections.old sections.new result }
 {
-    let w = nodes[i];
-    if w % KINDS != ITE {
+    let node = Node(nodes[i]);
+    if !node.is(NodeKind::Ite) {
         return c;
     }
-    let h = i + 1;
-    let p = w / POS % POSITIONS;
-    let number = Section(link.number.0 + 1);
-    let next = link.next;
+    let first = Node(nodes[i + 1]).last();
     let inner = Link {
-        linked: link.linked,
-        number,
-        next,
+        number: Section(link.number.0 + 1),
+        ..link
     };
-    let node = (nodes[h] / LAST) as usize;
     codegen_from_lists(
-        s,
-        nodes,
-        sections,
-        instrs,
-        numbers,
-        strings,
-        pool,
-        names,
-        node,
-        (w / NAME % NAMES) as usize,
-        (p % COUNTS) as usize,
-        depth,
-        inner,
-        (w / WIDTH % WIDTHS) as u16,
-        (p / COUNTS) as u16,
-        c,
+        s, nodes, sections, instrs, numbers, strings, pool, names, first, node, depth, inner, c,
     )
 }
 
-// An Ite's lists of a and b statements, from node i on, and their join: they make v and w sections.
+// The two lists of an Ite, from node i on, and their join; how many statements and sections each makes its node says.
 #[cycle(codegen_and_link_stmts_codegen_from_branch_codegen_from_inside_codegen_from_lists_codegen_from_stmt)]
 fn codegen_from_lists(
     s: &[u8],
@@ -188,50 +149,33 @@ fn codegen_from_lists(
     pool: &mut [u8],
     names: &mut [u16],
     i: usize,
-    a: usize,
-    b: usize,
+    ite: Node,
     depth: usize,
     link: Link,
-    v: u16,
-    w: u16,
     c: Counters,
 ) -> Counters
-    requires { IteReady s.now nodes.now i a b depth link.number.0 v w c (length instrs.old) (length numbers.old) (length strings.old) (length pool.old) (length names.old) (length sections.old) }
-    ensures { (m : ℕ) (x y : Block) (j z : ℕ) → m ≤ 2 ^ nameBits → HoldsB nodes.now s.now m a i x j → HoldsB nodes.now s.now m b j y z → IteDone m x y link.linked link.number.0 v w link.next.0 c (lent instrs.old numbers.old strings.old pool.old names.old) (lent instrs.new numbers.new strings.new pool.new names.new) sections.old sections.new result }
+    requires { IteReady s.now nodes.now i (nameIn ite.0) (elseCount ite.0) depth link.number.0 (widthIn ite.0) (elseWidth ite.0) c (length instrs.old) (length numbers.old) (length strings.old) (length pool.old) (length names.old) (length sections.old) }
+    ensures { (m : ℕ) (x y : Block) (j z : ℕ) → m ≤ 2 ^ nameBits → HoldsB nodes.now s.now m (nameIn ite.0) i x j → HoldsB nodes.now s.now m (elseCount ite.0) j y z → IteDone m x y link.linked link.number.0 (widthIn ite.0) (elseWidth ite.0) link.next.0 c (lent instrs.old numbers.old strings.old pool.old names.old) (lent instrs.new numbers.new strings.new pool.new names.new) sections.old sections.new result }
 {
-    let other = Section(link.number.0 + v);
-    let join = Section(other.0 + w);
+    let other = Section(link.number.0 + ite.width());
+    let join = Section(other.0 + ite.else_width());
+    let a = ite.name();
+    let b = ite.else_count();
     let d = depth - 1;
+    let number = link.number;
     let t = codegen_from_branch(
-        s,
-        nodes,
-        sections,
-        instrs,
-        numbers,
-        strings,
-        pool,
-        names,
-        i,
-        a,
-        d,
-        link.number,
-        join,
-        c,
+        s, nodes, sections, instrs, numbers, strings, pool, names, i, a, d, number, join, c,
     );
     let e = codegen_from_branch(
         s, nodes, sections, instrs, numbers, strings, pool, names, t.node, b, d, other, join,
         t.next,
     );
-    let r = e.next;
-    let next = link.next;
     let place = Place {
         slot: join,
         start: false,
-        linked: link.linked,
-        next,
     };
-    put_section(sections, join, false, successor(place), r.at, r.at);
-    r
+    put_section(sections, place, successor(link), e.next.at, e.next.at);
+    e.next
 }
 
 // An Ite's list, which goes on to the join; where it is empty it still makes a section.
@@ -256,19 +200,15 @@ fn codegen_from_branch(
     ensures { (m : ℕ) (x : Block) (z : ℕ) → m ≤ 2 ^ nameBits → HoldsB nodes.now s.now m count i x z → BranchDone m x z number.0 join.0 c (lent instrs.old numbers.old strings.old pool.old names.old) (lent instrs.new numbers.new strings.new pool.new names.new) sections.old sections.new result.next result.node }
 {
     if count == 0 {
-        put_section(
-            sections,
-            number,
-            false,
-            SectionOrLine::Section(join),
-            c.at,
-            c.at,
-        );
-        let behind = Section(number.0 + 1);
+        let place = Place {
+            slot: number,
+            start: false,
+        };
+        put_section(sections, place, SectionOrLine::Section(join), c.at, c.at);
         return Ended {
             next: c,
             node: i,
-            number: behind,
+            number: Section(number.0 + 1),
         };
     }
     let link = Link {
@@ -302,33 +242,20 @@ pub fn codegen_and_link_stmts(
     ensures { (m : ℕ) (x : Block) (z : ℕ) → m ≤ 2 ^ nameBits → HoldsB nodes.now s.now m count i x z → ListDone m x z link.linked link.number.0 link.next.0 c (lent instrs.old numbers.old strings.old pool.old names.old) (lent instrs.new numbers.new strings.new pool.new names.new) sections.old sections.new result.next result.node result.number.0 }
 {
     let mut d = c;
-    let mut node = i;
+    let mut at = i;
     let mut here = link;
-    let mut left = count;
-    while left > 0 {
-        let w = nodes[node];
+    for done in 0..count {
+        let node = Node(nodes[at]);
+        let first = first_link(node, count - done, here);
         d = codegen_from_stmt(
-            s,
-            nodes,
-            sections,
-            instrs,
-            numbers,
-            strings,
-            pool,
-            names,
-            node,
-            depth,
-            first_link(w, left, here),
-            d,
+            s, nodes, sections, instrs, numbers, strings, pool, names, at, depth, first, d,
         );
-        node = (w / LAST) as usize;
-        here = rest_link(w, here);
-        left -= 1;
+        at = node.last();
+        here = rest_link(node, here);
     }
-    let number = here.number;
     Ended {
         next: d,
-        node,
-        number,
+        node: at,
+        number: here.number,
     }
 }

@@ -5,5 +5,5 @@ use Rattle.lower.proofs.lower_by.Goals as goal
 
 pub returns-then-not-holds : goal.returns-then-not-holds
 returns-then-not-holds c =
-    let h = tree_ok c.read_tree-r.ensures c.in-Sized.is in
+    let h = tree_ok c.read_tree.ensures c.in_ok-size.was in
     lower-11 _ _ _ _ _ _ (given h _ c.estimate-room.ensures (omega arith) (omega arith)) (sym c.holds.ensures ∙ c.if-not-holds.true)

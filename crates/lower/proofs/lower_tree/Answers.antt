@@ -26,8 +26,8 @@ zero-requires-2 c =
     let b = rooms _ _ c.requires.room in
     (a.within, omega arith)
 
-pub zero_numbers-requires : goal.zero_numbers-requires
-zero_numbers-requires c =
+pub zero-requires-3 : goal.zero-requires-3
+zero-requires-3 c =
     let a = numbers-within (assembled _ _ _ _ _ _ c.requires _ _ c.codegen_from_program-c.ensures c.codegen_from_program-c.auto.instrs) in
     let b = rooms _ _ c.requires.room in
     (omega arith, omega arith)
@@ -35,4 +35,4 @@ zero_numbers-requires c =
 pub returns : goal.returns
 returns c =
     lower-done (assembled _ _ _ _ _ _ c.requires _ _ c.codegen_from_program-c.ensures c.codegen_from_program-c.auto.instrs) _ _ _ _ _ _ _
-    c.replace_duplicates-done.ensures c.requires.room _ _ _ c.zero.ensures c.zero-2.ensures c.zero_numbers.ensures
+    c.replace_duplicates-done.ensures c.requires.room _ _ _ c.zero.ensures c.zero-2.ensures c.zero-3.ensures

@@ -5,4 +5,4 @@ use Rattle.codegen.proofs.Laws.{then, done, same, plain₂}
 use Rattle.codegen.proofs.operators.apply_in_place.Goals as goal
 
 pub returns-clause-does : goal.returns-clause-does
-returns-clause-does c = record { does = same (as-in-place _ _ _) (then _ (c.emit-next.ensures.does _ (c.val_val.ensures ∙ plain₂ _ _ c.requires.1 refl _ _)).does done) }
+returns-clause-does c = record { does = same (as-in-place _ _ _) (then _ (c.emit.ensures.does _ (c.of_two.ensures ∙ plain₂ _ _ c.requires.1 refl _ _)).does done) }

@@ -1,6 +1,6 @@
--- The copy and then the operator, which is the one of its number.
+-- The copy and then the operator.
 use Rattle.codegen.proofs.Laws.{then}
 use Rattle.codegen.proofs.operators.codegen_from_binop.Goals as goal
 
 pub returns-clause-does : goal.returns-clause-does
-returns-clause-does c = record { does = then _ c.copy_valreg-x.ensures.does.does (rw c.binop_of.ensures at c.apply_binop.ensures.does).does }
+returns-clause-does c = record { does = then _ c.copy_valreg-x.ensures.does.does c.apply_binop.ensures.does.does }

@@ -8,7 +8,7 @@ use Rattle.stmts.specs.Parts.{ownCost, insideTally}
 use Rattle.stmts.proofs.Lists.{some-width, stored-empty}
 use Rattle.stmts.proofs.Parts.{one-parts}
 use Rattle.stmts.proofs.Places.{entry-same, not-end}
-use Rattle.stmts.proofs.Splits.{split, parts, cut, first, others}
+use Rattle.stmts.proofs.Splits.{split, parts, cut, first, others, moved, starts}
 use Rattle.stmts.proofs.Steps.{ready-first}
 use Rattle.line.specs.Lines.{innerNodes}
 use Rattle.line.proofs.Parts.{inner-only, line-none, line-more}
@@ -32,7 +32,7 @@ first_link-first-requires c = let p = c.requires.ready.list in let sp = cut p (o
 
 pub codegen_from_own-d-requires : goal.codegen_from_own-d-requires
 codegen_from_own-d-requires c =
-    rw c.with_cursor.ensures (record { depth = c.args.depth; ready = ready-first c.requires.ready (omega arith) c.first_link-first.ensures.number; placed = c.requires.slot })
+    rw c.with_cursor-own.ensures (record { depth = c.args.depth; ready = ready-first c.requires.ready (omega arith) c.first_link-first.ensures.number; placed = c.requires.slot })
 
 pub put_section-requires-2 : goal.put_section-requires-2
 put_section-requires-2 c =
@@ -48,12 +48,12 @@ codegen_from_inside-e-requires c =
     let pa = parts p.block in
     let op = one-parts p.block in
     let inn = inner-only p.block in
-    let hs = rw c.with_cursor.ensures at (c.codegen_from_own-d.ensures _ _ _ p.few sp.head).spent in
-    rw c.with_cursor-2.ensures
+    let hs = rw c.with_cursor-own.ensures at (c.codegen_from_own-d.ensures _ _ _ p.few sp.head).spent in
+    rw c.with_cursor-behind.ensures
     (record { list = first p (omega arith); ample = omega arith })
 
-pub rest_link-requires : goal.rest_link-requires
-rest_link-requires c = let p = c.requires.ready.list in let sp = cut p (omega arith) in omega (arith, parts p.block)
+pub rest_link-others-requires : goal.rest_link-others-requires
+rest_link-others-requires c = let p = c.requires.ready.list in let sp = cut p (omega arith) in omega (arith, parts p.block)
 
 pub codegen_and_link_stmts-r-requires : goal.codegen_and_link_stmts-r-requires
 codegen_and_link_stmts-r-requires c =
@@ -62,9 +62,9 @@ codegen_and_link_stmts-r-requires c =
     let pa = parts p.block in
     let op = one-parts p.block in
     let inn = inner-only p.block in
-    let hs = rw c.with_cursor.ensures at (c.codegen_from_own-d.ensures _ _ _ p.few sp.head).spent in
-    let is = rw c.with_cursor-2.ensures at (c.codegen_from_inside-e.ensures _ _ _ p.few sp.head).spent in
-    record { list = others p (omega arith); ample = omega arith }
+    let hs = rw c.with_cursor-own.ensures at (c.codegen_from_own-d.ensures _ _ _ p.few sp.head).spent in
+    let is = rw c.with_cursor-behind.ensures at (c.codegen_from_inside-e.ensures _ _ _ p.few sp.head).spent in
+    record { list = moved (others p (omega arith)) c.last-at.ensures; ample = omega arith }
 
 pub returns : goal.returns
 returns c = λ m x z h q.
@@ -74,16 +74,16 @@ returns c = λ m x z h q.
     let op = one-parts x in
     let inn = inner-only x in
     let f = c.first_link-first.ensures in
-    let g = c.rest_link.ensures in
-    let hd = rw (f.linked, f.number, c.with_cursor.ensures) at (c.codegen_from_own-d.ensures m _ _ h sp.head) in
-    let il = rw (f.linked, f.number, c.with_cursor-2.ensures) at (c.codegen_from_inside-e.ensures m _ _ h sp.head) in
-    let ls = c.codegen_and_link_stmts-r.ensures m _ _ h sp.tail in
+    let g = c.rest_link-others.ensures in
+    let hd = rw (f.linked, f.number, c.with_cursor-own.ensures) at (c.codegen_from_own-d.ensures m _ _ h sp.head) in
+    let il = rw (f.linked, f.number, c.with_cursor-behind.ensures) at (c.codegen_from_inside-e.ensures m _ _ h sp.head) in
+    let ls = c.codegen_and_link_stmts-r.ensures m _ _ h (starts (sym c.last-at.ensures) sp.tail) in
     let hs = hd.spent in
     let is = il.spent in
     let rs = ls.spent in
     record {
-      does = line-more x sp.some (g.number ∙ ap (λ (k : ℕ). c.args.number.0 + k) sp.made) (g.linked ∙ sp.linked true)
-          (f.next ∙ (entry-same _ _ _ pos sp.tail ∙ ap (λ (k : ℕ). cond (isEnd (rest x)) c.args.c.err.0 k) (sym g.number)))
+      does = line-more x sp.some (g.number ∙ ap (λ (k : ℕ). c.args.from.number.0 + k) sp.made) (g.linked ∙ sp.linked true)
+          (f.next ∙ (entry-same _ _ _ pos sp.tail ∙ ap (λ (k : ℕ). cond (isEnd (rest x)) c.args.from.next.err.0 k) (sym g.number)))
           hd.does (stored-empty c.put_section-2.ensures refl) il.does (rw g.next at ls.does);
       cost = omega (arith, hd.cost, own-only x);
       spent = omega arith;

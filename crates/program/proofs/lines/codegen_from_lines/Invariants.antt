@@ -1,5 +1,4 @@
 -- Before line k, whatever the lines from k on do, the whole then does. The tables keep their lengths.
-use Rattle.std.proofs.Common.{◌-◌, ◌≤◌}
 use Rattle.codegen.specs.Does.{lent}
 use Rattle.stmts.specs.Lists.{SameLengths}
 use Rattle.program.specs.Script.{LinesMid}
@@ -9,9 +8,5 @@ abbrev pub invariant-loop-k : goal.invariant-loop-k
 invariant-loop-k l =
     record {
       same : SameLengths (lent l.initial.instrs l.initial.numbers l.initial.strings l.initial.pool l.initial.names) (lent l.instrs l.numbers l.strings l.pool l.names) l.initial.sections l.sections;
-      within : l.k ≤ l.count;
       mid : LinesMid l.s l.nodes l.lines l.count l.initial.done.number.0 l.initial.done.head l.initial.done.next (lent l.initial.instrs l.initial.numbers l.initial.strings l.initial.pool l.initial.names) l.initial.sections l.k l.done.number.0 l.done.head l.done.next (lent l.instrs l.numbers l.strings l.pool l.names) l.sections;
     }
-
-abbrev pub decreases-loop-k : goal.decreases-loop-k
-decreases-loop-k l = l.count - l.k

@@ -44,4 +44,4 @@ returns c =
     let e = c.head_costs.ensures _ _ _ _ _ p.short fp hp in
     let d = c.codegen_from_lines-r.ensures _ _ _ _ fp hp in
     let o = owns-most p.tree.lines in
-    laid _ x l n (c.head_costs.ensures _ _ _ _ _ p.short fx hx) refl refl refl refl (c.codegen_from_lines-r.ensures _ _ _ _ fx hx) c.clear_names.ensures (λ vs k q. c.protect_names.ensures x.names vs _ pl n k q) (omega arith)
+    rw (c.from.ensures, c.from-2.ensures, c.from-3.ensures, c.from-4.ensures, c.from-5.ensures) (laid _ x l n (c.head_costs.ensures _ _ _ _ _ p.short fx hx) refl refl refl refl (c.codegen_from_lines-r.ensures _ _ _ _ fx hx) c.clear_names.ensures (λ vs k q. c.protect_names.ensures x.names vs _ pl n k q) (omega arith))

@@ -4,15 +4,15 @@ use Rattle.stmts.proofs.own.assign_by.Goals as goal
 
 pub returns-in-Plain-clause-does : goal.returns-in-Plain-clause-does
 unfolding assignBy
-returns-in-Plain-clause-does c = record { does = rw c.in-Plain.is (c.emit.ensures.does _ c.val_val.ensures).does }
+returns-in-Plain-clause-does c = record { does = rw c.in-Plain.is (c.emit.ensures.does _ c.of_two.ensures).does }
 
 pub returns-in-AddTo-clause-does : goal.returns-in-AddTo-clause-does
 unfolding assignBy
-returns-in-AddTo-clause-does c = record { does = rw c.in-AddTo.is (c.emit-in-AddTo.ensures.does _ c.val_val-in-AddTo.ensures).does }
+returns-in-AddTo-clause-does c = record { does = rw c.in-AddTo.is (c.emit-in-AddTo.ensures.does _ c.of_two-in-AddTo.ensures).does }
 
 pub returns-in-SubTo-clause-does : goal.returns-in-SubTo-clause-does
 unfolding assignBy
-returns-in-SubTo-clause-does c = record { does = rw c.in-SubTo.is (c.emit-in-SubTo.ensures.does _ c.val_val-in-SubTo.ensures).does }
+returns-in-SubTo-clause-does c = record { does = rw c.in-SubTo.is (c.emit-in-SubTo.ensures.does _ c.of_two-in-SubTo.ensures).does }
 
 pub returns-in-MulTo-clause-does : goal.returns-in-MulTo-clause-does
 unfolding assignBy

@@ -9,4 +9,4 @@ pub emit-requires : goal.emit-requires
 emit-requires c = let z = guard-most (canRuntimeErr c.args.op) in omega arith
 
 pub returns-clause-does : goal.returns-clause-does
-returns-clause-does c = record { does = same (as-store _ _) (then _ c.make_arith_binop-o.ensures.does.does (c.emit.ensures.does _ c.val_val.ensures).does) }
+returns-clause-does c = record { does = same (as-store _ _) (then _ c.make_arith_binop-o.ensures.does.does (c.emit.ensures.does _ c.of_two.ensures).does) }

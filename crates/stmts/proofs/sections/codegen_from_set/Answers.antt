@@ -1,7 +1,6 @@
 -- The assignment, and its section.
-use Rattle.std.proofs.Common.{arith, get_or}
-use Rattle.rules.specs.Tree.{PowTo}
-use Rattle.rules.specs.Parse.{assignops}
+use Rattle.std.proofs.Common.{arith}
+use Rattle.stmts.specs.Told.{assignTold}
 use Rattle.exprs.proofs.Trees.{expr-most}
 use Rattle.stmts.proofs.Makes.{makes-plain, assign-most}
 use Rattle.stmts.proofs.sections.codegen_from_set.Goals as goal
@@ -11,8 +10,8 @@ put_section-requires c =
     let p = c.requires.0.holding.ready in
     let s = (c.codegen_from_assign-d.ensures _ _ _ p.few c.requires.0.known p.held).spent in
     let z = expr-most p.tree in
-    let q = assign-most (get_or assignops c.args.op PowTo) in
-    (c.requires.2, omega arith, omega arith)
+    let q = assign-most (assignTold c.args.op) in
+    (c.requires.1, omega arith, omega arith)
 
 pub returns : goal.returns
 returns c = λ m e j h y x.

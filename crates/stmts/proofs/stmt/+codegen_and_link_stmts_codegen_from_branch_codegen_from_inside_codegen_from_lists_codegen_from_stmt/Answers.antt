@@ -1,56 +1,63 @@
 -- Each function hands what its tree's part needs down to the next, and the laws of lists put the parts together.
-use Rattle.std.proofs.Common.{◌≡◌, ℕ, ◌+◌, sym, ap, ◌∙◌, refl, add-one, arith, get_or}
+use Rattle.std.proofs.Common.{◌≡◌, ℕ, ◌+◌, ◌-◌, sym, ap, ◌∙◌, refl, add-one, arith, get_or}
 use Rattle.rules.specs.Tree.{ofBlock, both, emptyTally}
 use Rattle.nodes.specs.Width.{width}
 use Rattle.nodes.specs.Words.{iteKind, widthIn}
 use Rattle.nodes.proofs.Blocks.{is-end, tag, kind-held}
 use Rattle.nodes.proofs.Width.{or-one}
+use Rattle.exprs.proofs.Trees.{is-kind, no-kind}
 use Rattle.stmts.specs.Parts.{insideTally}
 use Rattle.stmts.proofs.Lists.{some-width, grew-both, branch-empty, branch-list, stored-empty}
 use Rattle.stmts.proofs.Parts.{one-parts, none-inside, ite-inside, inside-none, inside-ite, lists-one}
-use Rattle.stmts.proofs.Places.{not-end, ite-at, ite-sum}
-use Rattle.stmts.proofs.Splits.{parts, cut, moved, starts, one-only}
+use Rattle.stmts.proofs.Places.{not-end, ite-at}
+use Rattle.stmts.proofs.Splits.{parts, cut, moved, counted, counts, starts, one-only}
 use Rattle.stmts.proofs.Steps.{ready-first, list-on, list-end}
 use Rattle.stmts.proofs.stmt.+codegen_and_link_stmts_codegen_from_branch_codegen_from_inside_codegen_from_lists_codegen_from_stmt.Goals as goal
 
 -- ---- a list
 
-pub codegen_and_link_stmts-offset_bounds-nodes-node : goal.codegen_and_link_stmts-offset_bounds-nodes-node
-codegen_and_link_stmts-offset_bounds-nodes-node t c = let sp = cut c.loop-left.invariant.mid.ready.list c.loop-left-test.true in omega arith
+pub codegen_and_link_stmts-offset_bounds-nodes-at : goal.codegen_and_link_stmts-offset_bounds-nodes-at
+codegen_and_link_stmts-offset_bounds-nodes-at t c = let sp = cut c.loop-done.invariant.mid.ready.list (omega arith) in omega arith
 
-pub codegen_and_link_stmts-bounds-nodes-node : goal.codegen_and_link_stmts-bounds-nodes-node
-codegen_and_link_stmts-bounds-nodes-node t c = let sp = cut c.loop-left.invariant.mid.ready.list c.loop-left-test.true in omega arith
+pub codegen_and_link_stmts-bounds-nodes-at : goal.codegen_and_link_stmts-bounds-nodes-at
+codegen_and_link_stmts-bounds-nodes-at t c = let sp = cut c.loop-done.invariant.mid.ready.list (omega arith) in omega arith
 
-pub codegen_and_link_stmts-first_link-requires : goal.codegen_and_link_stmts-first_link-requires
-codegen_and_link_stmts-first_link-requires t c = let p = c.loop-left.invariant.mid.ready in let sp = cut p.list c.loop-left-test.true in omega (arith, p.ample, parts p.list.block)
+pub codegen_and_link_stmts-first_link-first-requires : goal.codegen_and_link_stmts-first_link-first-requires
+codegen_and_link_stmts-first_link-first-requires t c = let p = c.loop-done.invariant.mid.ready in let sp = cut p.list (omega arith) in omega (arith, p.ample, parts p.list.block)
 
 pub codegen_and_link_stmts-codegen_from_stmt-d-requires : goal.codegen_and_link_stmts-codegen_from_stmt-d-requires
-codegen_and_link_stmts-codegen_from_stmt-d-requires t c = (omega arith, ready-first c.loop-left.invariant.mid.ready c.loop-left-test.true c.first_link.ensures.number)
+codegen_and_link_stmts-codegen_from_stmt-d-requires t c = (omega arith, ready-first c.loop-done.invariant.mid.ready (omega arith) c.first_link-first.ensures.number)
 
 pub codegen_and_link_stmts-rest_link-here-requires : goal.codegen_and_link_stmts-rest_link-here-requires
-codegen_and_link_stmts-rest_link-here-requires t c = let p = c.loop-left.invariant.mid.ready in let sp = cut p.list c.loop-left-test.true in omega (arith, p.ample, parts p.list.block)
+codegen_and_link_stmts-rest_link-here-requires t c = let p = c.loop-done.invariant.mid.ready in let sp = cut p.list (omega arith) in omega (arith, p.ample, parts p.list.block)
 
-pub codegen_and_link_stmts-loop-left-preserved : goal.codegen_and_link_stmts-loop-left-preserved
-codegen_and_link_stmts-loop-left-preserved t c =
-    let i = c.loop-left.invariant in
-    let f = c.first_link.ensures in
+pub codegen_and_link_stmts-loop-done-init : goal.codegen_and_link_stmts-loop-done-init
+codegen_and_link_stmts-loop-done-init t c =
+    let e : c.args.count - 0 ≡ c.args.count = omega arith in
+    record { left_to = refl; mid = rw e (record { ready = c.requires; going = λ m x z h q. record { others = x; held = q; goes = λ t2 se2 c2 node number r. r } }) }
+
+pub codegen_and_link_stmts-loop-done-preserved : goal.codegen_and_link_stmts-loop-done-preserved
+codegen_and_link_stmts-loop-done-preserved t c =
+    let i = c.loop-done.invariant in
+    let f = c.first_link-first.ensures in
     let r = c.rest_link-here.ensures in
     let st = c.codegen_from_stmt-d in
+    let e : c.args.count - (c.loop-done.done + 1) ≡ c.args.count - c.loop-done.done - 1 = omega arith in
     record {
       left_to = r.next ∙ i.left_to;
-      mid = list-on i.mid c.loop-left-test.true f.linked f.number f.next i.left_to r.linked r.number (omega (arith, st.auto)) st.ensures;
+      mid = rw (e, c.last-at.ensures) (list-on i.mid (omega arith) f.linked f.number f.next i.left_to r.linked r.number (omega (arith, st.auto)) st.ensures);
     }
 
 pub codegen_and_link_stmts-returns : goal.codegen_and_link_stmts-returns
-codegen_and_link_stmts-returns t c = λ m x z h q. list-end c.loop-left.invariant.mid c.loop-left-test.false h q
+codegen_and_link_stmts-returns t c = λ m x z h q. list-end c.loop-done.invariant.mid (omega arith) h q
 
 -- ---- an Ite's list
 
 pub codegen_from_branch-put_section-requires : goal.codegen_from_branch-put_section-requires
 codegen_from_branch-put_section-requires t c = let o = or-one (width c.requires.0.list.block) in omega arith
 
-pub codegen_from_branch-overflow_add-behind : goal.codegen_from_branch-overflow_add-behind
-codegen_from_branch-overflow_add-behind t c = let o = or-one (width c.requires.0.list.block) in omega arith
+pub codegen_from_branch-overflow_add-result : goal.codegen_from_branch-overflow_add-result
+codegen_from_branch-overflow_add-result t c = let o = or-one (width c.requires.0.list.block) in omega arith
 
 pub codegen_from_branch-returns-then-count-eq0 : goal.codegen_from_branch-returns-then-count-eq0
 unfolding ofBlock emptyTally
@@ -77,36 +84,35 @@ codegen_from_inside-offset_bounds-nodes-i t c = let sp = cut c.requires.list (om
 pub codegen_from_inside-bounds-nodes-i : goal.codegen_from_inside-bounds-nodes-i
 codegen_from_inside-bounds-nodes-i t c = let sp = cut c.requires.list (omega arith) in omega arith
 
-pub codegen_from_inside-returns-then-w-ne-ITE : goal.codegen_from_inside-returns-then-w-ne-ITE
-codegen_from_inside-returns-then-w-ne-ITE t c = λ m x z h q.
-    let n : tag x + 8 ≡ iteKind → ⊥ = λ y. c.if-w-ne-ITE.true (kind-held (omega arith) q ∙ y) in
+pub codegen_from_inside-returns-then-not-is : goal.codegen_from_inside-returns-then-not-is
+codegen_from_inside-returns-then-not-is t c = λ m x z h q.
+    let n : tag x + 8 ≡ iteKind → ⊥ = λ y. (no-kind c.is.ensures c.if-not-is.true) (kind-held (omega arith) q ∙ y) in
     let k = none-inside x n in
     record { does = inside-none x n; spent = omega arith }
 
-pub codegen_from_inside-overflow_add-number : goal.codegen_from_inside-overflow_add-number
-codegen_from_inside-overflow_add-number t c =
+pub codegen_from_inside-overflow_add-inner : goal.codegen_from_inside-overflow_add-inner
+codegen_from_inside-overflow_add-inner t c =
     let p = c.requires.list in
-    let it = ite-at p.short p.few p.held c.if-w-ne-ITE.false in
-    let sm = ite-sum it.e it.yes it.no _ it.is in
-    omega arith
+    let it = ite-at p.short p.few p.held (is-kind c.is.ensures c.if-not-is.false) in
+    omega (arith, it.sum)
 
-pub codegen_from_inside-bounds-nodes-h : goal.codegen_from_inside-bounds-nodes-h
-codegen_from_inside-bounds-nodes-h t c =
+pub codegen_from_inside-bounds-nodes-i-2 : goal.codegen_from_inside-bounds-nodes-i-2
+codegen_from_inside-bounds-nodes-i-2 t c =
     let p = c.requires.list in
-    let it = ite-at p.short p.few p.held c.if-w-ne-ITE.false in
+    let it = ite-at p.short p.few p.held (is-kind c.is.ensures c.if-not-is.false) in
     omega arith
 
 pub codegen_from_inside-codegen_from_lists-requires : goal.codegen_from_inside-codegen_from_lists-requires
 unfolding both
 codegen_from_inside-codegen_from_lists-requires t c =
     let p = c.requires.list in
-    let it = ite-at p.short p.few p.held c.if-w-ne-ITE.false in
-    let sm = ite-sum it.e it.yes it.no _ it.is in
+    let it = ite-at p.short p.few p.held (is-kind c.is.ensures c.if-not-is.false) in
+    let sm = it.sum in
     let tl = ite-inside it.e it.yes it.no _ it.is in (
       omega arith,
       record {
         nested = omega arith;
-        yes = record { known = p.known; block = it.yes; last = it.mid; held = it.then-held; inside = omega arith; short = p.short; few = p.few; shallow = omega arith };
+        yes = record { known = p.known; block = it.yes; last = it.mid; held = starts (sym c.last-first.ensures) it.then-held; inside = omega arith; short = p.short; few = p.few; shallow = omega arith };
         no = record { known = p.known; block = it.no; last = p.last; held = it.else-held; inside = p.inside; short = p.short; few = p.few; shallow = omega arith };
         few-then = it.few-then;
         few-else = it.few-else;
@@ -120,8 +126,8 @@ codegen_from_inside-codegen_from_lists-requires t c =
 pub codegen_from_inside-returns : goal.codegen_from_inside-returns
 unfolding insideTally
 codegen_from_inside-returns t c = λ m x z h q.
-    let it = ite-at c.requires.list.short h q c.if-w-ne-ITE.false in
-    let ls = c.codegen_from_lists.ensures m _ _ _ _ h it.then-held it.else-held in
+    let it = ite-at c.requires.list.short h q (is-kind c.is.ensures c.if-not-is.false) in
+    let ls = c.codegen_from_lists.ensures m _ _ _ _ h (starts (sym c.last-first.ensures) it.then-held) it.else-held in
     rw it.is
     (record {
       does = inside-ite it.e it.yes it.no (add-one _) (ap (λ (k : ℕ). c.args.link.number.0 + 1 + k) it.width-then)
@@ -133,28 +139,30 @@ codegen_from_inside-returns t c = λ m x z h q.
 
 pub codegen_from_lists-codegen_from_branch-t-requires : goal.codegen_from_lists-codegen_from_branch-t-requires
 unfolding both
-codegen_from_lists-codegen_from_branch-t-requires t c = (omega arith, (record { list = c.requires.yes; ample = omega arith }, c.requires.few-then))
+codegen_from_lists-codegen_from_branch-t-requires t c =
+    let p = c.requires in
+    (omega arith, (record { list = counted p.yes c.name-a.ensures; ample = omega arith }, rw (sym c.name-a.ensures) at p.few-then))
 
 pub codegen_from_lists-codegen_from_branch-e-requires : goal.codegen_from_lists-codegen_from_branch-e-requires
 unfolding both
 codegen_from_lists-codegen_from_branch-e-requires t c =
     let p = c.requires in
-    let r = c.codegen_from_branch-t.ensures _ _ _ p.yes.few p.yes.held in
-    (omega arith, (record { list = moved p.no r.node-is; ample = omega (arith, r.spent) }, p.few-else))
+    let r = c.codegen_from_branch-t.ensures _ _ _ p.yes.few (counted p.yes c.name-a.ensures).held in
+    (omega arith, (record { list = counted (moved p.no r.node-is) c.else_count-b.ensures; ample = omega (arith, r.spent, c.width.ensures) }, rw (sym c.else_count-b.ensures) at p.few-else))
 
 pub codegen_from_lists-put_section-requires : goal.codegen_from_lists-put_section-requires
 unfolding both
 codegen_from_lists-put_section-requires t c =
     let p = c.requires in
-    let r = c.codegen_from_branch-t.ensures _ _ _ p.yes.few p.yes.held in
-    let u = (c.codegen_from_branch-e.ensures _ _ _ p.no.few (moved p.no r.node-is).held).spent in
-    omega (arith, r.spent)
+    let r = c.codegen_from_branch-t.ensures _ _ _ p.yes.few (counted p.yes c.name-a.ensures).held in
+    let u = (c.codegen_from_branch-e.ensures _ _ _ p.no.few (counted (moved p.no r.node-is) c.else_count-b.ensures).held).spent in
+    omega (arith, r.spent, c.width.ensures, c.else_width.ensures)
 
 pub codegen_from_lists-returns : goal.codegen_from_lists-returns
 codegen_from_lists-returns t c = λ m x y j z h q1 q2.
-    let r1 = c.codegen_from_branch-t.ensures m x j h q1 in
-    let r2 = c.codegen_from_branch-e.ensures m y z h (starts (sym r1.node-is) q2) in
-    record {
+    let r1 = c.codegen_from_branch-t.ensures m x j h (counts (sym c.name-a.ensures) q1) in
+    let r2 = c.codegen_from_branch-e.ensures m y z h (starts (sym r1.node-is) (counts (sym c.else_count-b.ensures) q2)) in
+    rw (sym c.width.ensures, sym c.else_width.ensures) (record {
       mid-counters = _;
       mid-tables = _;
       mid-sections = _;
@@ -163,7 +171,7 @@ codegen_from_lists-returns t c = λ m x y j z h q1 q2.
       no = r2.does;
       join = stored-empty c.put_section.ensures (rw c.successor.ensures);
       spent = grew-both _ _ r1.spent r2.spent;
-    }
+    })
 
 -- ---- a statement
 
