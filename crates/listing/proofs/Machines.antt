@@ -6,12 +6,12 @@ use Prim.Native.Nat.{ℕ, ◌+◌, ◌≤◌}
 use native.Mathlib.Omega.{arith}
 use lib.Dec.{eqb}
 use lib.ListN.{length, take, length-map}
-use lib.Seq.{length-take-le, get_or-take}
+use lib.Seq.{length-take-le}
 use borrow.Author.Tests.{leb-true}
 use Rattle.rules.specs.Bits.{ok}
 use Rattle.rules.specs.Word.{wordSpan, spanSpare}
 use Rattle.rules.specs.Machine.{Machine}
-use Rattle.rules.specs.Tables.{Tables, Counts, spanFits, fits, decode}
+use Rattle.rules.specs.Tables.{Tables, Counts, spanFits, fits, decode, readSections}
 use Rattle.rules.specs.Listing.{rowsN, rowsT, rowsV, rowsS, listing}
 use Rattle.laws.specs.Lists.{both}
 use Rattle.laws.specs.Table.{all-at}
@@ -20,7 +20,8 @@ use Rattle.tables.specs.Runs.{total, held}
 use Rattle.tables.proofs.Sound.{Sound, sound}
 use Rattle.tables.proofs.Read.{read-length, whole-total}
 use Rattle.tables.proofs.Change.{machineOf}
-use Rattle.text.specs.Wrote.{Room, Wrote, Prints}
+use Rattle.text.specs.declared.Writer.{Writer}
+use Rattle.text.specs.Wrote.{Room, Prints, HasRoom, Writes}
 use Rattle.listing.specs.Rows.{countsRow, Inside}
 use Rattle.listing.specs.Listed.{Lists, Listed}
 use Rattle.text.proofs.Writes.{Left, begin, from-start}
@@ -37,37 +38,39 @@ module _ (t : Tables) (u : Counts) (h : fits t u ≡ true) where
   pub one-machine : (m : Machine) → decode t u ≡ ok m → machineOf t u ≡ m
   one-machine m d = let z : ok (machineOf t u) ≡ ok m = sym decode-is ∙ d in cc
 
-module _ {t : Tables} {u : Counts} {o : List ℕ} (l : Lists t u o) where
+module _ {t : Tables} {u : Counts} {o : List ℕ} (l : Lists t u o) (w : Writer) (bytes : w.out.now ≡ o) (none : w.at ≡ 0) where
   keeps : Sound t u
   keeps = sound t u l.machine
 
-  pub inside : Inside t.strings (take u.pool t.pool) u.strings
+  pub inside : Inside (take u.strings t.strings) (take u.pool t.pool) (length (take u.strings t.strings))
   inside i h =
       let s = keeps in
       let n = length-take-le u.pool t.pool s.counts.pool in
-      let k = length-take-le u.strings t.strings s.counts.strings in
-      let a = span-inside u _ (all-at (spanFits u) (take u.strings t.strings) i _ s.spans (at_some (take u.strings t.strings) i (omega arith))) in
-      let e = get_or-take u.strings t.strings i 0 h in
-      rw n (subst (λ (w : ℕ). (wordSpan w).start + (wordSpan w).size ≤ u.pool) e a)
+      rw n (span-inside u _ (all-at (spanFits u) (take u.strings t.strings) i _ s.spans (at_some (take u.strings t.strings) i h)))
 
-  pub covered : total (take u.sections t.sections) ≡ u.instrs
-  covered = whole-total t u keeps
+  pub covered : total (take u.sections t.sections) ≡ length (take u.instrs t.instrs)
+  covered = whole-total t u keeps ∙ sym (length-take-le u.instrs t.instrs keeps.counts.instrs)
 
   sections-are : length (held t.sections t.instrs u.sections u.instrs) ≡ u.sections
   unfolding held
   sections-are = read-length (take u.sections t.sections) (take u.instrs t.instrs) ∙ length-take-le u.sections t.sections keeps.counts.sections
 
   -- the whole listing is left to write
-  pub starts : Left o 0 (listing (machineOf t u)) o 0 (countsRow u ∷ rowsN 0 (take u.numbers t.numbers) ∷ rowsT (take u.pool t.pool) 0 (map wordSpan (take u.strings t.strings)) ∷ rowsV 0 (take u.names t.names) ∷ rowsS 0 (held t.sections t.instrs u.sections u.instrs) ∷ [])
-  unfolding listing countsRow
+  pub starts : Left w (listing (machineOf t u)) w (countsRow u ∷ rowsN 0 (take u.numbers t.numbers) ∷ rowsT (take u.pool t.pool) 0 (map wordSpan (take u.strings t.strings)) ∷ rowsV 0 (take u.names t.names) ∷ rowsS 0 (readSections (take u.sections t.sections) (take u.instrs t.instrs)) ∷ [])
+  unfolding listing countsRow held
   starts =
       let s = keeps in
       let n = length-take-le u.numbers t.numbers s.counts.numbers in
       let k : length (map wordSpan (take u.strings t.strings)) ≡ u.strings = simp length-map (length-take-le u.strings t.strings s.counts.strings) in
-      begin o 0 (record { flat-is = rw (sections-are, n, k, append-nil) })
+      begin w (record { flat-is = rw (sections-are, n, k, append-nil) })
 
-  pub room-for : Room o 0 (listing (machineOf t u))
-  room-for = let h = l.room (machineOf t u) (decode-is t u l.machine) in omega arith
+  room-there : Room o 0 (listing (machineOf t u))
+  room-there = let h = l.room (machineOf t u) (decode-is t u l.machine) in omega arith
 
-  pub listed : {o' : List ℕ} {r : ℕ} → Wrote o o' 0 r (listing (machineOf t u)) → Listed t u o o' r
-  listed {o'} {r} w = record { prints = λ m d. subst (λ (x : Machine). Prints o o' r (listing x)) (one-machine t u l.machine m d) (from-start w room-for) }
+  pub room-for : HasRoom w (listing (machineOf t u))
+  room-for = rw (bytes, none) room-there
+
+  pub listed : {v : Writer} {o' : List ℕ} → o' ≡ v.out.now → Writes w v (listing (machineOf t u)) → Listed t u o o' v.at
+  listed {v} {o'} e x =
+      let p : Prints o o' v.at (listing (machineOf t u)) = from-start bytes none room-there e x in
+      record { prints = λ m d. subst (λ (y : Machine). Prints o o' v.at (listing y)) (one-machine t u l.machine m d) p }

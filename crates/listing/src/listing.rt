@@ -6,8 +6,9 @@ ghost use Rattle.listing.specs.Listed.{Lists, Listed};
 use crate::row::row_m;
 use crate::rows::{rows_n, rows_s, rows_t, rows_v};
 use tables::counts::Counts;
+use text::Writer;
 
-// Answers how many bytes are written.
+// Answers how many bytes are written. The six tables stand apart, as in the contracts, which take six lists.
 pub fn listing(
     out: &mut [u8],
     c: Counts,
@@ -21,11 +22,15 @@ pub fn listing(
     requires { Lists (tables sections.now instructions.now numbers.now strings.now pool.now names.now) (countsTold c) out.old }
     ensures { Listed (tables sections.now instructions.now numbers.now strings.now pool.now names.now) (countsTold c) out.old out.new result }
 {
-    let characters = c.characters;
-    let texts = &pool[..characters];
-    let mut a = row_m(out, 0, c);
-    a = rows_n(out, a, numbers, c.numbers);
-    a = rows_t(out, a, strings, texts, c.strings);
-    a = rows_v(out, a, names, c.names);
-    rows_s(out, a, sections, instructions, c.sections, c.instructions)
+    let mut to = Writer::new(out);
+    row_m(&mut to, c);
+    rows_n(&mut to, &numbers[..c.numbers]);
+    rows_t(&mut to, &strings[..c.strings], &pool[..c.characters]);
+    rows_v(&mut to, &names[..c.names]);
+    rows_s(
+        &mut to,
+        &sections[..c.sections],
+        &instructions[..c.instructions],
+    );
+    to.at
 }

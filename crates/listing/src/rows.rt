@@ -1,102 +1,72 @@
-// The rows of whole tables, each written behind what stands in a lent slice already, and shown to be those of `rules`; no other byte is
-// written. Asks for just that much room, and that the counted words are there.
-ghost use Rattle.std.specs.Prelude.{◌≡◌, map, ◌≤◌, length, take};
-ghost use Rattle.std.proofs.Math.Seq.{slice};
+// The rows of whole tables, each written behind what a writer has already, and shown to be those of `rules`; no other byte is written. Asks for
+// just that much room.
+ghost use Rattle.std.specs.Prelude.{◌≡◌, map, length};
 ghost use Rattle.rules.specs.Word.{wordIns, wordSpan};
+ghost use Rattle.rules.specs.Tables.{readSections};
 ghost use Rattle.rules.specs.Listing as Listing;
-ghost use Rattle.tables.specs.Runs.{held, total};
-ghost use Rattle.text.specs.Wrote.{Room, Wrote};
+ghost use Rattle.tables.specs.Runs.{total};
+ghost use Rattle.text.specs.Wrote.{HasRoom, Writes};
 ghost use Rattle.listing.specs.Rows.{Inside};
 
 use crate::row::{row_i, row_n, row_s, row_t, row_v};
 use params::limits::MARK;
+use text::Writer;
 use words::instr::Instruction;
 use words::section::SectionWord;
 use words::text::StringWord;
 
-pub(crate) fn rows_n(out: &mut [u8], at: usize, numbers: &[i64], n: usize) -> usize
-    requires { (n ≤ length numbers.now) × Room out.old at (Listing.rowsN 0 (take n numbers.now)) }
-    ensures { Wrote out.old out.new at result (Listing.rowsN 0 (take n numbers.now)) }
+pub(crate) fn rows_n(to: &mut Writer<'_>, numbers: &[i64])
+    requires { HasRoom to.old (Listing.rowsN 0 numbers.now) }
+    ensures { Writes to.old to.new (Listing.rowsN 0 numbers.now) }
 {
-    let mut a = at;
-    let mut i: usize = 0;
-    while i < n {
-        let z = numbers[i];
-        a = row_n(out, a, i, z);
-        i += 1;
+    for (i, z) in numbers.iter().enumerate() {
+        row_n(to, i, *z);
     }
-    a
 }
 
-pub(crate) fn rows_t(out: &mut [u8], at: usize, strings: &[u32], pool: &[u8], n: usize) -> usize
-    requires { (n ≤ length strings.now) × (Inside strings.now pool.now n × Room out.old at (Listing.rowsT pool.now 0 (map wordSpan (take n strings.now)))) }
-    ensures { Wrote out.old out.new at result (Listing.rowsT pool.now 0 (map wordSpan (take n strings.now))) }
+pub(crate) fn rows_t(to: &mut Writer<'_>, strings: &[u32], pool: &[u8])
+    requires { Inside strings.now pool.now (length strings.now) × HasRoom to.old (Listing.rowsT pool.now 0 (map wordSpan strings.now)) }
+    ensures { Writes to.old to.new (Listing.rowsT pool.now 0 (map wordSpan strings.now)) }
 {
-    let mut a = at;
-    let mut i: usize = 0;
-    while i < n {
-        let w = StringWord(strings[i]);
-        let start = w.start() as usize;
-        let stop = start + w.length() as usize;
-        a = row_t(out, a, i, &pool[start..stop]);
-        i += 1;
+    for (i, word) in strings.iter().enumerate() {
+        let w = StringWord(*word);
+        let start = usize::from(w.start());
+        let stop = start + usize::from(w.length());
+        row_t(to, i, &pool[start..stop]);
     }
-    a
 }
 
-pub(crate) fn rows_v(out: &mut [u8], at: usize, names: &[u16], n: usize) -> usize
-    requires { (n ≤ length names.now) × Room out.old at (Listing.rowsV 0 (take n names.now)) }
-    ensures { Wrote out.old out.new at result (Listing.rowsV 0 (take n names.now)) }
+pub(crate) fn rows_v(to: &mut Writer<'_>, names: &[u16])
+    requires { HasRoom to.old (Listing.rowsV 0 names.now) }
+    ensures { Writes to.old to.new (Listing.rowsV 0 names.now) }
 {
-    let mut a = at;
-    let mut i: usize = 0;
-    while i < n {
-        let v = names[i];
-        if v != MARK {
-            a = row_v(out, a, i, v);
+    for (i, name) in names.iter().enumerate() {
+        if *name != MARK {
+            row_v(to, i, *name);
         }
-        i += 1;
     }
-    a
 }
 
-// The instructions from..to.
-fn rows_i(out: &mut [u8], at: usize, instructions: &[u64], from: usize, to: usize) -> usize
-    requires { (from ≤ to) × ((to ≤ length instructions.now) × Room out.old at (Listing.rowsI (map wordIns (slice from to instructions.now)))) }
-    ensures { Wrote out.old out.new at result (Listing.rowsI (map wordIns (slice from to instructions.now))) }
+fn rows_i(to: &mut Writer<'_>, instructions: &[u64])
+    requires { HasRoom to.old (Listing.rowsI (map wordIns instructions.now)) }
+    ensures { Writes to.old to.new (Listing.rowsI (map wordIns instructions.now)) }
 {
-    let mut a = at;
-    let mut i = from;
-    while i < to {
-        let w = Instruction(instructions[i]);
-        a = row_i(out, a, w);
-        i += 1;
+    for word in instructions {
+        row_i(to, Instruction(*word));
     }
-    a
 }
 
 // Each section's row is followed by its instructions'.
-pub(crate) fn rows_s(
-    out: &mut [u8],
-    at: usize,
-    sections: &[u64],
-    instructions: &[u64],
-    n: usize,
-    e: usize,
-) -> usize
-    requires { (n ≤ length sections.now) × ((e ≤ length instructions.now) × ((total (take n sections.now) ≡ e) × Room out.old at (Listing.rowsS 0 (held sections.now instructions.now n e)))) }
-    ensures { Wrote out.old out.new at result (Listing.rowsS 0 (held sections.now instructions.now n e)) }
+pub(crate) fn rows_s(to: &mut Writer<'_>, sections: &[u64], instructions: &[u64])
+    requires { (total sections.now ≡ length instructions.now) × HasRoom to.old (Listing.rowsS 0 (readSections sections.now instructions.now)) }
+    ensures { Writes to.old to.new (Listing.rowsS 0 (readSections sections.now instructions.now)) }
 {
-    let mut a = at;
-    let mut k: usize = 0;
-    let mut i: usize = 0;
-    while i < n {
-        let w = SectionWord(sections[i]);
-        let to = k + w.count() as usize;
-        a = row_s(out, a, i, w);
-        a = rows_i(out, a, instructions, k, to);
-        k = to;
-        i += 1;
+    let mut rest = instructions;
+    for (i, word) in sections.iter().enumerate() {
+        let w = SectionWord(*word);
+        let (own, behind) = rest.split_at(usize::from(w.count()));
+        row_s(to, i, w);
+        rows_i(to, own);
+        rest = behind;
     }
-    a
 }

@@ -27,11 +27,10 @@ use Rattle.walks.specs.Calls.{Finishes}
 use Rattle.walks.proofs.Calls.{finishes}
 use Rattle.tables.proofs.Sound.{sound}
 use Rattle.tables.proofs.Change.{machineOf}
-use Rattle.text.specs.Wrote.{Room, Wrote, Prints}
+use Rattle.text.specs.Wrote.{Prints}
 use Rattle.listing.specs.Listed.{Lists, Listed}
-use Rattle.text.proofs.Writes.{from-start}
 use Rattle.listing.proofs.Machines.{one-machine}
-use Rattle.printed.proofs.Lengths.{mostCharacters, mostPrinted, refusal_length, listing-length}
+use Rattle.printed.proofs.Lengths.{mostCharacters, mostPrinted, listing-length}
 use Rattle.printed.proofs.Files.{Lent, refused-file, file}
 
 -- ---- words that hold a machine keep the rules
@@ -89,12 +88,6 @@ pub record SameLengths (t t' : Tables) : Type 0 where
 
 pub prints-as : {o o' : List ℕ} {r : ℕ} {bs cs : List ℕ} → Prints o o' r bs → bs ≡ cs → Prints o o' r cs
 prints-as {o} {o'} {r} p e = subst (Prints o o' r) e p
-
-pub refusal-room : (o : List ℕ) (n : ℕ) → length o ≡ mostPrinted → Room o 0 (refusal n)
-refusal-room o n h = let l = refusal_length n in omega arith
-
-pub refusal-prints : {o o' bs : List ℕ} {r : ℕ} (n : ℕ) → length o ≡ mostPrinted → Wrote o o' 0 r (refusal n) → refusal n ≡ bs → Prints o o' r bs
-refusal-prints {o} n h w e = prints-as (from-start w (refusal-room o n h)) e
 
 -- the texts of a tree's machine stand end to end
 module _ (p : Options) (x : Tree) where

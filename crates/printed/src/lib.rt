@@ -2,6 +2,8 @@
 // as the longest listing, so `finlist` asks nothing.
 #![tactic(auto)]
 
+ghost use Rattle.std.specs.Prelude.{◌≤◌, length};
+ghost use Rattle.params.specs.Told.{numberOf};
 ghost use Rattle.rules.specs.Listing as Listing;
 ghost use Rattle.text.specs.Wrote.{Prints};
 
@@ -10,13 +12,16 @@ use listing::listing::listing;
 use listing::row::row_r;
 use params::limits::{BYTE_BITS, CHAR_BITS, MOST_NODES, NAME_BITS};
 use params::options::CodegenOptions;
-use params::refusal::TOO_LONG;
-use tables::answer::Answer;
+use params::refusal::Refusal;
+use text::Writer;
 
 // The bytes of a file that is read at most.
 pub const FINLIST_BYTES: usize = 8192;
 
-// What is lent: words of sections, instructions and numbers, and of the others as many as any file counts.
+// What a program reads of a file: one byte more, so that a longer one is seen to be too long.
+pub const MOST_READ: usize = FINLIST_BYTES + 1;
+
+// What is lent, in arrays, since there is no heap: words of sections, instructions and numbers, and of the others as many as any file counts.
 const SECTIONS: usize = 2048;
 
 const INSTRUCTIONS: usize = 4096;
@@ -42,13 +47,23 @@ pub const MOST_PRINTED: usize = 107
     + 47 * SECTIONS
     + 26 * INSTRUCTIONS;
 
+// R and the number of a refusal; answers how many bytes are printed.
+fn refuse(out: &mut [u8], r: Refusal) -> usize
+    requires { length (Listing.refusal (numberOf r)) ≤ length out.old }
+    ensures { Prints out.old out.new result (Listing.refusal (numberOf r)) }
+{
+    let mut to = Writer::new(out);
+    row_r(&mut to, r.number());
+    to.at
+}
+
 // Answers how many bytes are printed.
 #[tactic(auto, using(crate::proofs::Lengths::refusal_length))]
 pub fn finlist(input: &[u8], out: &mut [u8; MOST_PRINTED]) -> usize
     ensures { Prints out.old out.new result (Listing.finlist input.now) }
 {
     if input.len() > FINLIST_BYTES {
-        return row_r(out, 0, TOO_LONG);
+        return refuse(out, Refusal::TooLong);
     }
     let options = CodegenOptions {
         protect_locals: false,
@@ -60,7 +75,7 @@ pub fn finlist(input: &[u8], out: &mut [u8; MOST_PRINTED]) -> usize
     let mut strings = [0u32; STRINGS];
     let mut pool = [0u8; CHARACTERS];
     let mut names = [0u16; NAMES];
-    let a = finish(
+    let answer = finish(
         input,
         options,
         &mut sections,
@@ -70,9 +85,9 @@ pub fn finlist(input: &[u8], out: &mut [u8; MOST_PRINTED]) -> usize
         &mut pool,
         &mut names,
     );
-    match a {
-        Answer::Refused(n) => row_r(out, 0, n),
-        Answer::Done(c) => listing(
+    match answer {
+        Err(r) => refuse(out, r),
+        Ok(c) => listing(
             out,
             c,
             &sections,

@@ -1,30 +1,40 @@
 -- Bytes written one behind the other: parts that follow each other, and a loop that writes what is left. Assumes nothing.
 use mathlib.Core.Path.{◌≡◌, refl, sym, ap, ◌∙◌, subst}
-use mathlib.Core.List.{List, [], ◌∷◌, ◌++◌, append_assoc}
-use Prim.Native.Nat.{ℕ, ◌+◌, ◌<◌}
+use mathlib.Core.List.{List, [], ◌∷◌, ◌++◌, append_assoc, append-nil}
+use Prim.Native.Nat.{ℕ, ◌+◌}
 use native.Mathlib.Nat.{zero-add}
-use native.Mathlib.Numerals.{add-one}
 use native.Mathlib.Omega.{arith}
-use lib.ListN.{length, take, set, get_or, length-append}
-use lib.Seq.{sets, sets-eq, length-sets, take-suc}
+use lib.ListN.{length, drop, length-append}
+use borrow.Rule.Slice.PartMut.{put_mid}
+use lib.Seq.{drop-drop, sets, sets-eq, length-sets}
 use Rattle.laws.specs.Stores.{sets-sets}
-use Rattle.text.specs.Wrote.{Room, Wrote, Prints}
+use Rattle.text.specs.declared.Writer.{Writer}
+use Rattle.text.specs.Wrote.{Room, Wrote, Prints, HasRoom, Writes}
 
-one : (o : List ℕ) (a b : ℕ) → Wrote o (set o a b) a (a + 1) (b ∷ [])
-one o a b = record { text = refl; stop = refl }
+pub seq : {u v w : Writer} {xs ys : List ℕ} → Writes u v xs → Writes v w ys → Writes u w (xs ++ ys)
+seq {u} {v} {w} {xs} {ys} x y =
+    record {
+      same_reference = y.same_reference ∙ x.same_reference;
+      wrote = record { text = y.wrote.text ∙ rw (x.wrote.text, x.wrote.stop) (sets-sets xs u.out.now u.at ys); stop = simp length-append (omega (arith, x.wrote.stop, y.wrote.stop)) };
+    }
 
-pub seq : {o p q : List ℕ} {a b c : ℕ} {xs ys : List ℕ} → Wrote o p a b xs → Wrote p q b c ys → Wrote o q a c (xs ++ ys)
-seq {o} {p} {q} {a} {b} {c} {xs} {ys} v w =
-    record { text = w.text ∙ rw (v.text, v.stop) (sets-sets xs o a ys); stop = simp length-append (omega (arith, v.stop, w.stop)) }
+pub as-is : {u v : Writer} {xs ys : List ℕ} → Writes u v xs → xs ≡ ys → Writes u v ys
+as-is {u} {v} w h = subst (Writes u v) h w
 
-pub as-is : {o p : List ℕ} {a e : ℕ} {xs ys : List ℕ} → Wrote o p a e xs → xs ≡ ys → Wrote o p a e ys
-as-is {o} {p} {a} {e} w h = subst (Wrote o p a e) h w
+-- what is lent holds in the end what the writer has, if it is the writer's
+pub at-end : {u v : Writer} {bs o : List ℕ} {g : ℕ} → u.out.ghost_name ≡ g → (g ≡ v.out.ghost_name → o ≡ v.out.now) → Writes u v bs → o ≡ v.out.now
+at-end e f w = f (sym e ∙ sym w.same_reference)
 
--- written from the first byte on
-pub from-start : {o p : List ℕ} {r : ℕ} {bs : List ℕ} → Wrote o p 0 r bs → Room o 0 bs → Prints o p r bs
-from-start {o} {p} {r} {bs} w h =
-    let e : r ≡ length bs = omega (arith, w.stop) in
-    record { text = w.text ∙ sets-eq bs o 0 h ∙ rw (e, zero-add); size = e }
+-- written from the first byte on, in o, which holds o' in the end
+pub from-start : {u v : Writer} {bs o o' : List ℕ} → u.out.now ≡ o → u.at ≡ 0 → Room o 0 bs → o' ≡ v.out.now → Writes u v bs → Prints o o' v.at bs
+from-start {u} {v} {bs} {o} b z h f w =
+    let e : v.at ≡ length bs = omega (arith, w.wrote.stop, z) in
+    let t : sets u.out.now u.at bs ≡ bs ++ drop v.at o = rw (b, z, e) (rw zero-add at (sets-eq bs o 0 h)) in
+    record { text = f ∙ (w.wrote.text ∙ t); size = e }
+
+-- bytes copied in one go
+pub copied : (o : List ℕ) (a : ℕ) {s b : List ℕ} {k : ℕ} → Room o a s → k ≡ length s → b ≡ s → Wrote o (put_mid a k o b) a (a + length s) s
+copied o a {s} {b} {k} h n e = record { text = rw (n, e) (rw (drop-drop, ← append_assoc) (sym (sets-eq s o a h))); stop = refl }
 
 -- ---- what is left to write, part by part
 
@@ -36,43 +46,41 @@ flat-append : (xs ys : List (List ℕ)) → flat (xs ++ ys) ≡ flat xs ++ flat 
 flat-append [] ys = refl
 flat-append (x ∷ xs) ys = rw (flat-append xs ys, append_assoc)
 
--- o with `all` from a on is o' with what is left from e on
-pub record Left (o : List ℕ) (a : ℕ) (all o' : List ℕ) (e : ℕ) (left : List (List ℕ)) : Type 0 where
-  pub text : sets o' e (flat left) ≡ sets o a all
-  pub stop : e + length (flat left) ≡ a + length all
+-- what u had with `all` behind it is what v has with what is left behind it
+pub record Left (u : Writer) (all : List ℕ) (v : Writer) (left : List (List ℕ)) : Type 0 where
+  pub same_reference : v.out.ghost_name ≡ u.out.ghost_name
+  pub text : sets v.out.now v.at (flat left) ≡ sets u.out.now u.at all
+  pub stop : v.at + length (flat left) ≡ u.at + length all
 
 -- the parts xs are x, one behind the other
 pub record Are (xs : List (List ℕ)) (x : List ℕ) : Type 0 where
   pub flat-is : flat xs ≡ x
 
-pub begin : {all : List ℕ} {xs : List (List ℕ)} (o : List ℕ) (a : ℕ) → Are xs all → Left o a all o a xs
-begin o a h = record { text = rw h.flat-is; stop = rw h.flat-is }
+pub whole : {x : List ℕ} → Are (x ∷ []) x
+whole {x} = record { flat-is = append-nil x }
 
-module _ {o o' : List ℕ} {a e : ℕ} {all : List ℕ} where
-  pub same : {xs : List (List ℕ)} → Left o a all o' e xs → length o' ≡ length o
-  same {xs} r = sym (length-sets o' e (flat xs)) ∙ (ap length r.text ∙ length-sets o a all)
+pub begin : {all : List ℕ} {xs : List (List ℕ)} (u : Writer) → Are xs all → Left u all u xs
+begin u h = record { same_reference = refl; text = rw h.flat-is; stop = rw h.flat-is }
 
-  pub done : Left o a all o' e [] → Wrote o o' a e all
-  done r = record { text = r.text; stop = omega (arith, r.stop) }
+module _ {u v : Writer} {all : List ℕ} where
+  pub same : {xs : List (List ℕ)} → Left u all v xs → length v.out.now ≡ length u.out.now
+  same {xs} r = sym (length-sets v.out.now v.at (flat xs)) ∙ (ap length r.text ∙ length-sets u.out.now u.at all)
+
+  pub done : Left u all v [] → Writes u v all
+  done r = record { same_reference = r.same_reference; wrote = record { text = r.text; stop = omega (arith, r.stop) } }
 
   module _ {x : List ℕ} {xs : List (List ℕ)} where
     -- a part in parts of its own
-    pub part : {ys : List (List ℕ)} → Are ys x → Left o a all o' e (x ∷ xs) → Left o a all o' e (ys ++ xs)
-    part {ys} h r = record { text = rw (flat-append ys xs, h.flat-is) r.text; stop = rw (flat-append ys xs, h.flat-is) r.stop }
+    pub part : {ys : List (List ℕ)} → Are ys x → Left u all v (x ∷ xs) → Left u all v (ys ++ xs)
+    part {ys} h r = record { same_reference = r.same_reference; text = rw (flat-append ys xs, h.flat-is) r.text; stop = rw (flat-append ys xs, h.flat-is) r.stop }
 
-    pub write : {p : List ℕ} {f : ℕ} → Left o a all o' e (x ∷ xs) → Wrote o' p e f x → Left o a all p f xs
-    write {p} {f} r w =
+    pub write : {w : Writer} → Left u all v (x ∷ xs) → Writes v w x → Left u all w xs
+    write {w} r y =
         record {
-          text = rw (w.text, w.stop) (sets-sets x o' e (flat xs) ∙ r.text);
-          stop = omega (arith, w.stop, simp length-append at r.stop);
+          same_reference = y.same_reference ∙ r.same_reference;
+          text = rw (y.wrote.text, y.wrote.stop) (sets-sets x v.out.now v.at (flat xs) ∙ r.text);
+          stop = omega (arith, y.wrote.stop, simp length-append at r.stop);
         }
 
-    pub room : Left o a all o' e (x ∷ xs) → Room o a all → Room o' e x
+    pub room : Left u all v (x ∷ xs) → HasRoom u all → HasRoom v x
     room r h = omega (arith, same r, simp length-append at r.stop)
-
--- ---- bytes copied one by one
-
-pub one-more : {o p : List ℕ} {a : ℕ} (s : List ℕ) (i : ℕ) → i < length s → Wrote o p a (a + i) (take i s) → Wrote o (set p (a + i) (get_or s i 0)) a (a + (i + 1)) (take (i + 1) s)
-one-more {o} {p} {a} s i h w =
-    let e : a + i + 1 ≡ a + (i + 1) = omega arith in
-    rw (add-one i, take-suc s i 0 h) (rw (e, add-one i) at (seq w (one p (a + i) (get_or s i 0))))

@@ -5,9 +5,9 @@
 
 pub mod input;
 
-ghost use Rattle.std.specs.Prelude.{◌≡◌, [], ◌∷◌, ◌≤◌, nat_abs, length, drop};
+ghost use Rattle.std.specs.Prelude.{◌≡◌, [], ◌∷◌, ◌≤◌, length, drop};
 ghost use Rattle.rules.specs.Listing as Listing;
-ghost use Rattle.text.specs.Wrote.{Room, Wrote};
+ghost use Rattle.text.specs.Wrote.{HasRoom, Writes};
 ghost use Rattle.text.specs.Numbers.{nums};
 
 // The most digits of a number.
@@ -22,102 +22,24 @@ const ZERO: u8 = 48;
 // What ten is written from.
 const LETTERS: u8 = 87;
 
-pub fn put(out: &mut [u8], at: usize, b: u8) -> usize
-    requires { Room out.old at (b ∷ []) }
-    ensures { Wrote out.old out.new at result (b ∷ []) }
-{
-    out[at] = b;
-    at + 1
-}
-
-pub fn put_bytes(out: &mut [u8], at: usize, s: &[u8]) -> usize
-    requires { Room out.old at s.now }
-    ensures { Wrote out.old out.new at result s.now }
-{
-    let mut i: usize = 0;
-    while i < s.len() {
-        let b = s[i];
-        out[at + i] = b;
-        i += 1;
-    }
-    at + i
-}
-
 // The digits of a number at the end of d; answers where they begin.
 #[tactic(auto, using(crate::proofs::Parts::digit_last, crate::proofs::Parts::digit_more, crate::proofs::Parts::no_digit))]
 fn digits(d: &mut [u8], v: usize) -> usize
     requires { length d.old ≡ 20 }
     ensures { (result ≤ 20) × (drop result d.new ≡ Listing.digits 20 v []) }
 {
-    let mut k: usize = DIGITS;
     let mut x = v;
-    while 0 < k {
-        k -= 1;
+    for k in (0..DIGITS).rev() {
         d[k] = ZERO + (x % 10) as u8;
         if x < 10 {
             return k;
         }
-        x = x / 10;
+        x /= 10;
     }
-    k
+    0
 }
 
-pub fn put_digits(out: &mut [u8], at: usize, v: usize) -> usize
-    requires { Room out.old at (Listing.digits 20 v []) }
-    ensures { Wrote out.old out.new at result (Listing.digits 20 v []) }
-{
-    let mut d = [0u8; DIGITS];
-    let k = digits(&mut d, v);
-    put_bytes(out, at, &d[k..])
-}
-
-#[tactic(auto, using(crate::proofs::Writes::seq), unfolding(rules::specs::Listing::nat))]
-pub fn put_num(out: &mut [u8], at: usize, v: usize) -> usize
-    requires { Room out.old at (Listing.nat v) }
-    ensures { Wrote out.old out.new at result (Listing.nat v) }
-{
-    let a = put(out, at, BLANK);
-    put_digits(out, a, v)
-}
-
-pub fn put_nums(out: &mut [u8], at: usize, vs: &[usize]) -> usize
-    requires { Room out.old at (nums vs.now) }
-    ensures { Wrote out.old out.new at result (nums vs.now) }
-{
-    let mut i: usize = 0;
-    let mut a = at;
-    while i < vs.len() {
-        let v = vs[i];
-        a = put_num(out, a, v);
-        i += 1;
-    }
-    a
-}
-
-// Below zero -1 - z is counted, so that the most negative number has a count too.
-fn magnitude(z: i64) -> usize
-    ensures { result ≡ nat_abs z }
-{
-    if z < 0 {
-        let v = (-1 - z) as usize;
-        return v + 1;
-    }
-    z as usize
-}
-
-pub fn put_int(out: &mut [u8], at: usize, z: i64) -> usize
-    requires { Room out.old at (Listing.int z) }
-    ensures { Wrote out.old out.new at result (Listing.int z) }
-{
-    let a = put(out, at, BLANK);
-    let v = magnitude(z);
-    if z < 0 {
-        let b = put(out, a, MINUS);
-        return put_digits(out, b, v);
-    }
-    put_digits(out, a, v)
-}
-
+// A digit as a byte: the library's `from_digit` gives a char that may be none.
 #[tactic(auto, unfolding(rules::specs::Listing::hexDigit))]
 fn hex_digit(v: u8) -> u8
     requires { v ≤ 15 }
@@ -126,29 +48,97 @@ fn hex_digit(v: u8) -> u8
     if v < 10 { ZERO + v } else { LETTERS + v }
 }
 
-pub fn put_hex(out: &mut [u8], at: usize, s: &[u8]) -> usize
-    requires { Room out.old at (Listing.hex s.now) }
-    ensures { Wrote out.old out.new at result (Listing.hex s.now) }
-{
-    let mut i: usize = 0;
-    let mut a = at;
-    while i < s.len() {
-        let c = s[i];
-        let b = put(out, a, hex_digit(c / 16));
-        a = put(out, b, hex_digit(c % 16));
-        i += 1;
-    }
-    a
+// Lent bytes, and how many of them are written.
+#[derive(Drop)]
+pub struct Writer<'a> {
+    pub out: &'a mut [u8],
+    pub at: usize,
 }
 
-// A text, `-` if it is empty.
-pub fn put_text(out: &mut [u8], at: usize, s: &[u8]) -> usize
-    requires { Room out.old at (Listing.hexText s.now) }
-    ensures { Wrote out.old out.new at result (Listing.hexText s.now) }
-{
-    let a = put(out, at, BLANK);
-    if s.len() == 0 {
-        return put(out, a, MINUS);
+impl<'a> Writer<'a> {
+    // Nothing is written yet.
+    pub fn new(out: &'a mut [u8]) -> Writer<'a>
+        ensures same_reference { result.out.ghost_name ≡ out.entry.ghost_name }
+        ensures bytes { result.out.now ≡ out.entry.now }
+        ensures none { result.at ≡ 0 }
+    {
+        Writer { out, at: 0 }
     }
-    put_hex(out, a, s)
+
+    pub fn put(&mut self, b: u8)
+        requires { HasRoom self.old (b ∷ []) }
+        ensures { Writes self.old self.new (b ∷ []) }
+    {
+        self.out[self.at] = b;
+        self.at += 1;
+    }
+
+    pub fn put_bytes(&mut self, s: &[u8])
+        requires { HasRoom self.old s.now }
+        ensures { Writes self.old self.new s.now }
+    {
+        let end = self.at + s.len();
+        self.out[self.at..end].copy_from_slice(s);
+        self.at = end;
+    }
+
+    pub fn put_digits(&mut self, v: usize)
+        requires { HasRoom self.old (Listing.digits 20 v []) }
+        ensures { Writes self.old self.new (Listing.digits 20 v []) }
+    {
+        let mut d = [0u8; DIGITS];
+        let k = digits(&mut d, v);
+        self.put_bytes(&d[k..]);
+    }
+
+    #[tactic(auto, using(crate::proofs::Writes::seq), unfolding(rules::specs::Listing::nat))]
+    pub fn put_num(&mut self, v: usize)
+        requires { HasRoom self.old (Listing.nat v) }
+        ensures { Writes self.old self.new (Listing.nat v) }
+    {
+        self.put(BLANK);
+        self.put_digits(v);
+    }
+
+    pub fn put_nums(&mut self, vs: &[usize])
+        requires { HasRoom self.old (nums vs.now) }
+        ensures { Writes self.old self.new (nums vs.now) }
+    {
+        for v in vs {
+            self.put_num(*v);
+        }
+    }
+
+    pub fn put_int(&mut self, z: i64)
+        requires { HasRoom self.old (Listing.int z) }
+        ensures { Writes self.old self.new (Listing.int z) }
+    {
+        self.put(BLANK);
+        if z < 0 {
+            self.put(MINUS);
+        }
+        self.put_digits(z.unsigned_abs() as usize);
+    }
+
+    pub fn put_hex(&mut self, s: &[u8])
+        requires { HasRoom self.old (Listing.hex s.now) }
+        ensures { Writes self.old self.new (Listing.hex s.now) }
+    {
+        for c in s {
+            self.put(hex_digit(*c / 16));
+            self.put(hex_digit(*c % 16));
+        }
+    }
+
+    // A text, `-` if it is empty.
+    pub fn put_text(&mut self, s: &[u8])
+        requires { HasRoom self.old (Listing.hexText s.now) }
+        ensures { Writes self.old self.new (Listing.hexText s.now) }
+    {
+        self.put(BLANK);
+        match s {
+            [] => self.put(MINUS),
+            _ => self.put_hex(s),
+        }
+    }
 }

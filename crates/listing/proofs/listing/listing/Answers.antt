@@ -1,28 +1,45 @@
 -- The parts of the listing are written one behind the other.
-use Rattle.std.proofs.Common.{sym}
+use Rattle.std.proofs.Common.{rules, sym}
 use Rattle.std.proofs.Math.Seq.{length-take-le}
 use Rattle.tables.proofs.Sound.{sound}
-use Rattle.text.proofs.Writes.{write, room, done}
+use Rattle.text.proofs.Writes.{write, room, done, at-end}
 use Rattle.listing.proofs.Machines.{inside, covered, starts, room-for, listed}
 use Rattle.listing.proofs.listing.listing.Goals as goal
 
-pub slice_bounds-texts-end : goal.slice_bounds-texts-end
-slice_bounds-texts-end c = sym (length-take-le _ _ (sound _ _ c.requires.machine).counts.pool)
+pub slice_bounds-rows_n-end : goal.slice_bounds-rows_n-end
+slice_bounds-rows_n-end c = sym (length-take-le _ _ (sound _ _ c.requires.machine).counts.numbers)
 
-pub row_m-a-requires : goal.row_m-a-requires
-row_m-a-requires c = room (starts c.requires) (room-for c.requires)
+pub slice_bounds-rows_t-end : goal.slice_bounds-rows_t-end
+slice_bounds-rows_t-end c = sym (length-take-le _ _ (sound _ _ c.requires.machine).counts.strings)
 
-pub rows_n-a-requires : goal.rows_n-a-requires
-rows_n-a-requires c = ((sound _ _ c.requires.machine).counts.numbers, room (write (starts c.requires) c.row_m-a.ensures) (room-for c.requires))
+pub slice_bounds-rows_t-end-2 : goal.slice_bounds-rows_t-end-2
+slice_bounds-rows_t-end-2 c = sym (length-take-le _ _ (sound _ _ c.requires.machine).counts.pool)
 
-pub rows_t-a-requires : goal.rows_t-a-requires
-rows_t-a-requires c = ((sound _ _ c.requires.machine).counts.strings, (inside c.requires, room (write (write (starts c.requires) c.row_m-a.ensures) c.rows_n-a.ensures) (room-for c.requires)))
+pub slice_bounds-rows_v-end : goal.slice_bounds-rows_v-end
+slice_bounds-rows_v-end c = sym (length-take-le _ _ (sound _ _ c.requires.machine).counts.names)
 
-pub rows_v-a-requires : goal.rows_v-a-requires
-rows_v-a-requires c = ((sound _ _ c.requires.machine).counts.names, room (write (write (write (starts c.requires) c.row_m-a.ensures) c.rows_n-a.ensures) c.rows_t-a.ensures) (room-for c.requires))
+pub slice_bounds-rows_s-end : goal.slice_bounds-rows_s-end
+slice_bounds-rows_s-end c = sym (length-take-le _ _ (sound _ _ c.requires.machine).counts.sections)
+
+pub slice_bounds-rows_s-end-2 : goal.slice_bounds-rows_s-end-2
+slice_bounds-rows_s-end-2 c = sym (length-take-le _ _ (sound _ _ c.requires.machine).counts.instrs)
+
+pub row_m-requires : goal.row_m-requires
+row_m-requires c = room (starts c.requires c.new-to.result c.new-to.ensures.bytes c.new-to.ensures.none) (room-for c.requires c.new-to.result c.new-to.ensures.bytes c.new-to.ensures.none)
+
+pub rows_n-requires : goal.rows_n-requires
+rows_n-requires c = room (write (starts c.requires c.new-to.result c.new-to.ensures.bytes c.new-to.ensures.none) c.row_m.ensures) (room-for c.requires c.new-to.result c.new-to.ensures.bytes c.new-to.ensures.none)
+
+pub rows_t-requires : goal.rows_t-requires
+rows_t-requires c = (inside c.requires c.new-to.result c.new-to.ensures.bytes c.new-to.ensures.none, room (write (write (starts c.requires c.new-to.result c.new-to.ensures.bytes c.new-to.ensures.none) c.row_m.ensures) c.rows_n.ensures) (room-for c.requires c.new-to.result c.new-to.ensures.bytes c.new-to.ensures.none))
+
+pub rows_v-requires : goal.rows_v-requires
+rows_v-requires c = room (write (write (write (starts c.requires c.new-to.result c.new-to.ensures.bytes c.new-to.ensures.none) c.row_m.ensures) c.rows_n.ensures) c.rows_t.ensures) (room-for c.requires c.new-to.result c.new-to.ensures.bytes c.new-to.ensures.none)
 
 pub rows_s-requires : goal.rows_s-requires
-rows_s-requires c = ((sound _ _ c.requires.machine).counts.sections, ((sound _ _ c.requires.machine).counts.instrs, (covered c.requires, room (write (write (write (write (starts c.requires) c.row_m-a.ensures) c.rows_n-a.ensures) c.rows_t-a.ensures) c.rows_v-a.ensures) (room-for c.requires))))
+rows_s-requires c = (covered c.requires c.new-to.result c.new-to.ensures.bytes c.new-to.ensures.none, room (write (write (write (write (starts c.requires c.new-to.result c.new-to.ensures.bytes c.new-to.ensures.none) c.row_m.ensures) c.rows_n.ensures) c.rows_t.ensures) c.rows_v.ensures) (room-for c.requires c.new-to.result c.new-to.ensures.bytes c.new-to.ensures.none))
 
 pub returns : goal.returns
-returns c = listed c.requires (done (write (write (write (write (write (starts c.requires) c.row_m-a.ensures) c.rows_n-a.ensures) c.rows_t-a.ensures) c.rows_v-a.ensures) c.rows_s.ensures))
+returns c =
+    let d = done (write (write (write (write (write (starts c.requires c.new-to.result c.new-to.ensures.bytes c.new-to.ensures.none) c.row_m.ensures) c.rows_n.ensures) c.rows_t.ensures) c.rows_v.ensures) c.rows_s.ensures) in
+    listed c.requires c.new-to.result c.new-to.ensures.bytes c.new-to.ensures.none (at-end c.new-to.ensures.same_reference (search rules) d) d

@@ -1,14 +1,16 @@
 -- Each instruction has a row.
-use Rattle.std.proofs.Common.{arith}
-use Rattle.text.proofs.Writes.{part, write, room, done}
+use Rattle.text.proofs.Writes.{whole, begin, part, write, room, done}
 use Rattle.listing.proofs.TableRows.{instrs-none, instrs-more}
 use Rattle.listing.proofs.rows.rows_i.Goals as goal
 
-pub row_i-a-requires : goal.row_i-a-requires
-row_i-a-requires c = room (part (instrs-more _ _ _ c.loop-i-test.true c.requires.1.0) c.loop-i.invariant.1) c.requires.1.1
+pub loop-word-init : goal.loop-word-init
+loop-word-init c = begin c.args.to.now whole
 
-pub loop-i-preserved : goal.loop-i-preserved
-loop-i-preserved c = (omega arith, write (part (instrs-more _ _ _ c.loop-i-test.true c.requires.1.0) c.loop-i.invariant.1) c.row_i-a.ensures)
+pub row_i-requires : goal.row_i-requires
+row_i-requires c = room (part (instrs-more _ _ c.loop-word-test.true) c.loop-word.invariant) c.requires
+
+pub loop-word-preserved : goal.loop-word-preserved
+loop-word-preserved c = write (part (instrs-more _ _ c.loop-word-test.true) c.loop-word.invariant) c.row_i.ensures
 
 pub returns : goal.returns
-returns c = done (part (instrs-none _ _ _ c.loop-i-test.false c.loop-i.invariant.0) c.loop-i.invariant.1)
+returns c = done (part (instrs-none _ _ c.loop-word-test.false c.loop-word.auto.word-index-end) c.loop-word.invariant)
