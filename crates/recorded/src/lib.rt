@@ -1,4 +1,4 @@
-// Reads the recorded answers (oracle/README.md, "Recorded answers"): parts of a line, and numbers and bytes in them.
+// Reads the recorded answers (oracle/README.md, "Recorded answers"): parts of a line, and numbers and bytes in them; and counts the lines that agree.
 //
 // Each function is shown safe and ending, on any bytes. A number that is too long or no number is read as some number; what is compared with it
 // then does not agree.
@@ -7,21 +7,42 @@
 pub mod machine;
 pub mod rows;
 
-ghost use Rattle.std.specs.Prelude.{◌≡◌, ◌≤◌, ◌<◌, length, take};
+ghost use Rattle.std.specs.Prelude.{◌≡◌, ◌+◌, ◌-◌, ◌*◌, ◌^◌, ◌≤◌, ◌<◌, length, take};
 
 use std::io;
+use std::io::Read;
+use text::input::read_full;
 
-// Where the stretch that begins at `from` ends: at the next `stop`, or where the text does.
+// The most bytes of recorded lines that are read.
+const MOST_RECORDED: usize = 524288;
+
+// The room for the recorded lines. It is no local of the function below, whose proof would not close over an array of this length.
+fn room() -> [u8; MOST_RECORDED] {
+    [0u8; MOST_RECORDED]
+}
+
+// Reads the recorded lines, and does this with them.
+pub fn on_lines<R: Read, F: FnOnce(&[u8]) -> io::Result<()>>(
+    from: &mut R,
+    with: F,
+) -> io::Result<()>
+    requires { F.IsAlwaysCallable with }
+{
+    let mut space = room();
+    let n = read_full(from, &mut space)?;
+    with(&space[..n])
+}
+
+// Where the stretch that begins at `from` ends: at the next `stop`, or where the text does. This, `behind` and `part` are what `field` and `rest`
+// rest on: the library's `split(..).nth(k)` gives no place to go on from.
 pub fn until(text: &[u8], from: usize, stop: u8) -> usize
     requires { from ≤ length text.now }
     ensures { (from ≤ result) × (result ≤ length text.now) }
 {
-    for i in from..text.len() {
-        if text[i] == stop {
-            return i;
-        }
+    match text[from..].iter().position(|b| *b == stop) {
+        Some(n) => from + n,
+        None => text.len(),
     }
-    text.len()
 }
 
 // The place behind what stands at `at`, or the end.
@@ -29,33 +50,43 @@ pub fn behind(text: &[u8], at: usize) -> usize
     requires { at ≤ length text.now }
     ensures { (at ≤ result) × (result ≤ length text.now) }
 {
-    if at < text.len() { at + 1 } else { at }
+    text.len().min(at + 1)
 }
 
-// The value of a hexadecimal digit, and so of a decimal one.
-fn digit(c: u8) -> u64
+// The value of a hexadecimal digit, and so of a decimal one. The library's `to_digit` is of a char that may be none, and takes capitals too.
+fn digit(c: u8) -> u8
     ensures { result < 16 }
 {
     match c {
-        b'0'..=b'9' => (c - b'0') as u64,
-        b'a'..=b'f' => (c - b'a') as u64 + 10,
+        b'0'..=b'9' => c - b'0',
+        b'a'..=b'f' => c - b'a' + 10,
         _ => 0,
     }
 }
 
-// The first decimal number of a text, at most 19 digits long.
-pub fn decimal(text: &[u8]) -> u64 {
+// The first number of a text. No digit is read behind one that makes it as large as `most`. The library's `parse` refuses what is read here as some
+// number.
+fn number(text: &[u8], base: u64, most: u64) -> u64
+    requires { (most - 1) * base + 15 < 2 ^ 64 }
+{
     let mut v: u64 = 0;
     for c in text {
-        if *c == b' ' {
+        if *c == b' ' || v >= most {
             return v;
         }
-        if v >= 1000000000000000000 {
-            return v;
-        }
-        v = v * 10 + digit(*c);
+        v = v * base + u64::from(digit(*c));
     }
     v
+}
+
+// The first decimal number of a text, at most 19 digits long.
+pub fn decimal(text: &[u8]) -> u64 {
+    number(text, 10, 1000000000000000000)
+}
+
+// The first hexadecimal number of a text, at most 16 digits long.
+fn hexadecimal(text: &[u8]) -> u64 {
+    number(text, 16, 1152921504606846976)
 }
 
 // Where the part of this number begins, parts parted by `stop`; the end where there are fewer.
@@ -69,27 +100,63 @@ pub fn part(text: &[u8], k: usize, stop: u8) -> usize
     at
 }
 
-// The bytes that a text spells in hexadecimal, as many as there is room for.
+// The part of this number; nothing where there are fewer.
+pub fn field(text: &[u8], k: usize, stop: u8) -> &[u8]
+    ensures { length result.now ≤ length text.now }
+{
+    let from = part(text, k, stop);
+    &text[from..until(text, from, stop)]
+}
+
+// What begins with the part of this number, to the end of the text; nothing where there are fewer.
+pub fn rest(text: &[u8], k: usize, stop: u8) -> &[u8]
+    ensures { length result.now ≤ length text.now }
+{
+    &text[part(text, k, stop)..]
+}
+
+// The byte that two hexadecimal digits spell.
+fn spelled(digits: [u8; 2]) -> u8 {
+    digit(digits[0]) * 16 + digit(digits[1])
+}
+
+// The bytes that a text spells in hexadecimal, as many as there is room for; how many, since there is no heap.
 pub fn bytes(text: &[u8], out: &mut [u8]) -> usize
     ensures { (result ≤ length out.new) × (result ≡ length (take result out.new)) }
 {
-    for n in 0..out.len() {
-        if n >= text.len() / 2 {
-            return n;
-        }
-        out[n] = (digit(text[2 * n]) * 16 + digit(text[2 * n + 1])) as u8;
+    let (pairs, _) = text.as_chunks::<2>();
+    for (byte, pair) in out.iter_mut().zip(pairs) {
+        *byte = spelled(*pair);
     }
-    out.len()
-}
-
-pub fn one_if(b: bool) -> u64
-    ensures { result ≤ 1 }
-{
-    if b { 1 } else { 0 }
+    out.len().min(pairs.len())
 }
 
 // How many of the cases agree, to standard output.
 pub fn print<P: Print>(to: &P, agree: u64, cases: u64, what: &[u8]) -> io::Result<()> {
     print!(to; "{agree} of {cases}")?;
     to.write_all(what)
+}
+
+// Of how many lines of a text is this so?
+fn lines_where<F: Fn(&[u8]) -> bool>(text: &[u8], holds: F) -> usize
+    requires { F.IsAlwaysCallable holds }
+    ensures { result ≤ length text.now }
+{
+    text.split_inclusive(|b| *b == b'\n')
+        .filter(|line| holds(&line[..until(line, 0, b'\n')]))
+        .count()
+}
+
+// Of how many lines of a text `agrees` says so, to standard output. What it prints is compared.
+pub fn replay<P: Print, F: Fn(&[u8]) -> bool>(
+    to: &P,
+    text: &[u8],
+    what: &[u8],
+    agrees: F,
+) -> io::Result<()>
+    requires { F.IsAlwaysCallable agrees }
+{
+    let cases = lines_where(text, |_| true);
+    let agree = lines_where(text, agrees);
+    print(to, agree as u64, cases as u64, what)
 }

@@ -3,10 +3,8 @@
 // Each function is shown safe and ending, on any bytes.
 ghost use Rattle.std.specs.Prelude.{◌≡◌, ◌≤◌, length, take};
 
-use crate::rows::{
-    read_signed, read16, read32, read64, spells_bytes, spells_signed, spells16, spells32, spells64,
-};
-use crate::{bytes, decimal, part, until};
+use crate::rows::{Word, read, spells, spells_bytes};
+use crate::{bytes, decimal, field};
 use tables::counts::Counts;
 
 // The parts of the line: the counts, then the tables.
@@ -16,24 +14,46 @@ pub const SECTIONS: usize = 1;
 
 pub const INSTRUCTIONS: usize = 2;
 
-const NUMBERS: usize = 3;
+pub const NUMBERS: usize = 3;
 
-const STRINGS: usize = 4;
+pub const STRINGS: usize = 4;
 
 const POOL: usize = 5;
 
-const NAMES: usize = 6;
+pub const NAMES: usize = 6;
+
+// A machine's tables.
+#[derive(Clone, Copy)]
+pub struct Tables<'a> {
+    pub sections: &'a [u64],
+    pub instructions: &'a [u64],
+    pub numbers: &'a [i64],
+    pub strings: &'a [u32],
+    pub pool: &'a [u8],
+    pub names: &'a [u16],
+}
+
+impl<'a> Tables<'a> {
+    // As many words of each as are counted, if there are as many.
+    fn counted(self, c: Counts) -> Option<Tables<'a>> {
+        Some(Tables {
+            sections: self.sections.get(..c.sections)?,
+            instructions: self.instructions.get(..c.instructions)?,
+            numbers: self.numbers.get(..c.numbers)?,
+            strings: self.strings.get(..c.strings)?,
+            pool: self.pool.get(..c.characters)?,
+            names: self.names.get(..c.names)?,
+        })
+    }
+}
 
 fn table(text: &[u8], k: usize) -> &[u8] {
-    let from = part(text, k, b'|');
-    let end = until(text, from, b'|');
-    &text[from..end]
+    field(text, k, b'|')
 }
 
 // A number of a row.
 fn count(row: &[u8], k: usize) -> usize {
-    let at = part(row, k, b' ');
-    decimal(&row[at..]) as usize
+    decimal(field(row, k, b' ')) as usize
 }
 
 fn row_counts(row: &[u8]) -> Counts {
@@ -54,34 +74,11 @@ pub fn counts(text: &[u8]) -> Counts {
     row_counts(table(text, COUNTS))
 }
 
-pub fn same(a: Counts, b: Counts) -> bool {
-    (a.lines == b.lines)
-        & (a.sections == b.sections)
-        & (a.instructions == b.instructions)
-        & (a.numbers == b.numbers)
-        & (a.strings == b.strings)
-        & (a.characters == b.characters)
-        & (a.values == b.values)
-        & (a.names == b.names)
-}
-
-// Sections or instructions into a lent table; how many words there are.
-pub fn words_of(text: &[u8], k: usize, out: &mut [u64]) -> usize
+// A table of sections, instructions, numbers, strings or names into a lent one; how many words there are.
+pub fn words_of<W: Word>(text: &[u8], k: usize, out: &mut [W]) -> usize
     ensures { (result ≤ length out.new) × (result ≡ length (take result out.new)) }
 {
-    read64(table(text, k), out)
-}
-
-pub fn numbers_of(text: &[u8], out: &mut [i64]) -> usize
-    ensures { (result ≤ length out.new) × (result ≡ length (take result out.new)) }
-{
-    read_signed(table(text, NUMBERS), out)
-}
-
-pub fn strings_of(text: &[u8], out: &mut [u32]) -> usize
-    ensures { (result ≤ length out.new) × (result ≡ length (take result out.new)) }
-{
-    read32(table(text, STRINGS), out)
+    read(table(text, k), out)
 }
 
 pub fn pool_of(text: &[u8], out: &mut [u8]) -> usize
@@ -90,108 +87,28 @@ pub fn pool_of(text: &[u8], out: &mut [u8]) -> usize
     bytes(table(text, POOL), out)
 }
 
-pub fn names_of(text: &[u8], out: &mut [u16]) -> usize
-    ensures { (result ≤ length out.new) × (result ≡ length (take result out.new)) }
-{
-    read16(table(text, NAMES), out)
-}
-
 // Are these just the words of the recorded tables?
-pub fn has_tables(
-    text: &[u8],
-    sections: &[u64],
-    instructions: &[u64],
-    numbers: &[i64],
-    strings: &[u32],
-    pool: &[u8],
-    names: &[u16],
-) -> bool {
-    spells64(table(text, SECTIONS), sections)
-        & spells64(table(text, INSTRUCTIONS), instructions)
-        & spells_signed(table(text, NUMBERS), numbers)
-        & spells32(table(text, STRINGS), strings)
-        & spells_bytes(table(text, POOL), pool)
-        & spells16(table(text, NAMES), names)
-}
-
-// Are these the words of the recorded tables, as many as are counted?
-fn has_counted(
-    text: &[u8],
-    c: Counts,
-    sections: &[u64],
-    instructions: &[u64],
-    numbers: &[i64],
-    strings: &[u32],
-    pool: &[u8],
-    names: &[u16],
-) -> bool {
-    if c.sections > sections.len() {
-        return false;
-    }
-    if c.instructions > instructions.len() {
-        return false;
-    }
-    if c.numbers > numbers.len() {
-        return false;
-    }
-    if c.strings > strings.len() {
-        return false;
-    }
-    if c.characters > pool.len() {
-        return false;
-    }
-    if c.names > names.len() {
-        return false;
-    }
-    let from: usize = 0;
-    let s = c.sections;
-    let i = c.instructions;
-    let n = c.numbers;
-    let t = c.strings;
-    let p = c.characters;
-    let m = c.names;
-    has_tables(
-        text,
-        &sections[from..s],
-        &instructions[from..i],
-        &numbers[from..n],
-        &strings[from..t],
-        &pool[from..p],
-        &names[from..m],
-    )
+pub fn has_tables(text: &[u8], t: Tables<'_>) -> bool {
+    spells(table(text, SECTIONS), t.sections)
+        & spells(table(text, INSTRUCTIONS), t.instructions)
+        & spells(table(text, NUMBERS), t.numbers)
+        & spells(table(text, STRINGS), t.strings)
+        & spells_bytes(table(text, POOL), t.pool)
+        & spells(table(text, NAMES), t.names)
 }
 
 // Are these the recorded counts, and the words that they count?
-pub fn is_machine(
-    text: &[u8],
-    c: Counts,
-    sections: &[u64],
-    instructions: &[u64],
-    numbers: &[i64],
-    strings: &[u32],
-    pool: &[u8],
-    names: &[u16],
-) -> bool {
-    same(counts(text), c)
-        & has_counted(
-            text,
-            c,
-            sections,
-            instructions,
-            numbers,
-            strings,
-            pool,
-            names,
-        )
+pub fn is_machine(text: &[u8], c: Counts, t: Tables<'_>) -> bool {
+    match t.counted(c) {
+        Some(counted) => (counts(text) == c) & has_tables(text, counted),
+        None => false,
+    }
 }
 
 // Is it `R` and this number?
 pub fn refused(row: &[u8], n: u64) -> bool {
-    if row.len() < 3 {
-        return false;
+    match row {
+        [b'R', _, number @ ..] => !number.is_empty() & (decimal(number) == n),
+        _ => false,
     }
-    if row[0] != b'R' {
-        return false;
-    }
-    decimal(&row[2..]) == n
 }
