@@ -8,9 +8,9 @@ ghost use Rattle.sezkibalo.specs.Calls.{optionsOf, buildCall};
 
 use crate::counts::{EIGHT, answered};
 use params::options::CodegenOptions;
-use params::refusal::NO_ROOM;
+use params::refusal::Refusal;
 
-// Bit 0 protects the local names, bit 1 the global ones; the other bits are ignored.
+// Bit 0 protects the local names, bit 1 the global ones; the other bits are ignored. They are C's form of the options, so no `From` reads them.
 fn options_of(n: u64) -> CodegenOptions
     ensures { optionsTold result ≡ optionsOf n }
 {
@@ -19,6 +19,8 @@ fn options_of(n: u64) -> CodegenOptions
         protect_globals: n / 2 % 2 == 1,
     }
 }
+
+// The two calls are alike but for the operation, as those in lib.rt.
 
 // Lowers a tree file.
 #[unsafe(no_mangle)]
@@ -37,7 +39,7 @@ pub extern "C" fn sezkibalo_lower(
     ensures { (result, counts.new, tables sections.new instrs.new numbers.new strings.new pool.new names.new) ≡ buildCall Operations.lower tree.now options counts.old (tables sections.old instrs.old numbers.old strings.old pool.old names.old) }
 {
     if counts.len() < EIGHT {
-        return NO_ROOM;
+        return Refusal::NoRoom.number();
     }
     let o = options_of(options);
     let a = lower::lower(tree, o, sections, instrs, numbers, strings, pool, names);
@@ -61,7 +63,7 @@ pub extern "C" fn sezkibalo_finish(
     ensures { (result, counts.new, tables sections.new instrs.new numbers.new strings.new pool.new names.new) ≡ buildCall Operations.finish tree.now options counts.old (tables sections.old instrs.old numbers.old strings.old pool.old names.old) }
 {
     if counts.len() < EIGHT {
-        return NO_ROOM;
+        return Refusal::NoRoom.number();
     }
     let o = options_of(options);
     let a = finish::finish(tree, o, sections, instrs, numbers, strings, pool, names);

@@ -1,6 +1,7 @@
 // The numbers that a caller lends: read as the counts of a machine, and written with an answer.
 //
 // Each function is shown to write the numbers at the start and to leave the rest. It asks that they have room, which the calls test first.
+// C's numbers are u64 and Rust's counts usize, between which there is no `From`: so `as`, which is shown to lose nothing.
 ghost use Rattle.std.specs.Prelude.{◌≡◌, ◌≤◌, length};
 ghost use Rattle.tree.specs.Files.{sized};
 ghost use Rattle.tables.specs.Lent.{countsTold, answerTold};
@@ -20,12 +21,14 @@ pub fn put_sizes(counts: &mut [u64], z: Sizes)
     requires { 6 ≤ length counts.old }
     ensures { counts.new ≡ front (sizeRow (sized z)) counts.old }
 {
-    counts[0] = z.lines;
-    counts[1] = z.names;
-    counts[2] = z.statements as u64;
-    counts[3] = z.nodes as u64;
-    counts[4] = z.strings as u64;
-    counts[5] = z.characters as u64;
+    counts[..SIX].copy_from_slice(&[
+        z.lines,
+        z.names,
+        z.statements as u64,
+        z.nodes as u64,
+        z.strings as u64,
+        z.characters as u64,
+    ]);
 }
 
 // The eight counts.
@@ -33,14 +36,16 @@ fn put_counts(counts: &mut [u64], c: Counts)
     requires { 8 ≤ length counts.old }
     ensures { counts.new ≡ front (countsRow (countsTold c)) counts.old }
 {
-    counts[0] = c.lines as u64;
-    counts[1] = c.sections as u64;
-    counts[2] = c.instructions as u64;
-    counts[3] = c.numbers as u64;
-    counts[4] = c.strings as u64;
-    counts[5] = c.characters as u64;
-    counts[6] = c.values as u64;
-    counts[7] = c.names as u64;
+    counts[..EIGHT].copy_from_slice(&[
+        c.lines as u64,
+        c.sections as u64,
+        c.instructions as u64,
+        c.numbers as u64,
+        c.strings as u64,
+        c.characters as u64,
+        c.values as u64,
+        c.names as u64,
+    ]);
 }
 
 pub fn read_counts(counts: &[u64]) -> Counts
@@ -65,10 +70,10 @@ pub fn answered(counts: &mut [u64], a: Answer) -> u64
     ensures { (result, counts.new) ≡ answerRow (answerTold a) counts.old }
 {
     match a {
-        Answer::Refused(n) => n,
-        Answer::Done(d) => {
-            put_counts(counts, d);
+        Ok(c) => {
+            put_counts(counts, c);
             0
         }
+        Err(refusal) => refusal.number(),
     }
 }

@@ -16,9 +16,8 @@ ghost use Rattle.sezkibalo.specs.Calls.{sizeCall, changeCall};
 
 use counts::{EIGHT, SIX, answered, put_sizes, read_counts};
 use params::limits::MOST_COUNT;
-use params::refusal::NO_ROOM;
+use params::refusal::Refusal;
 use tables::text::text_place;
-use tree::SizeAnswer;
 use words::instr::StrReg;
 
 // Registers are below this.
@@ -32,10 +31,7 @@ fn spot(start: usize, length: usize) -> u64
     requires { length ≤ mostChars }
     ensures { result ≡ Operations.spotOf (span start length) }
 {
-    if start > MOST_START {
-        return MOST_START as u64 * 4294967296 + length as u64;
-    }
-    start as u64 * 4294967296 + length as u64
+    start.min(MOST_START) as u64 * 4294967296 + length as u64
 }
 
 // Lines, names, statements, nodes, strings and characters of a tree file; or the number that refuses it.
@@ -45,17 +41,19 @@ pub extern "C" fn sezkibalo_size(tree: &[u8], counts: &mut [u64]) -> u64
     ensures { (result, counts.new) ≡ sizeCall tree.now counts.old }
 {
     if counts.len() < SIX {
-        return NO_ROOM;
+        return Refusal::NoRoom.number();
     }
-    let a = tree::size(tree);
-    match a {
-        SizeAnswer::Refused(n) => n,
-        SizeAnswer::Sized(z) => {
+    match tree::size(tree) {
+        Ok(z) => {
             put_sizes(counts, z);
             0
         }
+        Err(refusal) => refusal.number(),
     }
 }
+
+// The three calls on a machine, and lower and finish, are alike but for the operation. Each is a name of its own to C, and one function of them would
+// take the operation with all six tables as a closure, which is longer than a body here.
 
 // Replaces the duplicate operands of a machine.
 #[unsafe(no_mangle)]
@@ -72,7 +70,7 @@ pub extern "C" fn sezkibalo_replace(
     ensures { (result, counts.new, tables sections.new instructions.new numbers.new strings.new pool.now names.now) ≡ changeCall Operations.replace counts.old (tables sections.old instructions.old numbers.old strings.old pool.now names.now) }
 {
     if counts.len() < EIGHT {
-        return NO_ROOM;
+        return Refusal::NoRoom.number();
     }
     let c = read_counts(counts);
     let a = replace::replace::replace(c, sections, instructions, numbers, strings, pool, names);
@@ -94,7 +92,7 @@ pub extern "C" fn sezkibalo_clean(
     ensures { (result, counts.new, tables sections.new instructions.new numbers.new strings.new pool.now names.now) ≡ changeCall Operations.clean counts.old (tables sections.old instructions.old numbers.old strings.old pool.now names.now) }
 {
     if counts.len() < EIGHT {
-        return NO_ROOM;
+        return Refusal::NoRoom.number();
     }
     let c = read_counts(counts);
     let a = clean::clean::clean(c, sections, instructions, numbers, strings, pool, names);
@@ -116,7 +114,7 @@ pub extern "C" fn sezkibalo_combine(
     ensures { (result, counts.new, tables sections.new instructions.new numbers.new strings.new pool.now names.now) ≡ changeCall Operations.combine counts.old (tables sections.old instructions.old numbers.old strings.old pool.now names.now) }
 {
     if counts.len() < EIGHT {
-        return NO_ROOM;
+        return Refusal::NoRoom.number();
     }
     let c = read_counts(counts);
     let a = combine::combine(c, sections, instructions, numbers, strings, pool, names);
