@@ -1,21 +1,19 @@
--- Successors ahead: where no successor that is no line start lies below its section, no join changes that, and none lets a section before S1 take
--- its successor in. So the search for the lowest pair may go on where it stands. What 15 does not refuse is such a machine.
+-- Successors ahead: where no successor that is no line start lies below its section, no join changes that. What 15 does not refuse is such a machine.
 use Rattle.std.specs.Prelude.{◌≡◌, refl, Bool, true, false, ◌||◌, List, [], ◌∷◌, ℕ, zero, suc, ◌+◌, ◌≤◌, ◌<◌, leb, length, get_or}
 use Rattle.std.proofs.Common.{sym, ap, ◌∙◌, arith}
 use Rattle.std.proofs.lemmas.Bool.{false≢true}
 use Rattle.std.proofs.Math.Option.{Option, none, some}
 use Rattle.std.proofs.Math.ListN.{get_elem?}
-use Rattle.std.proofs.Math.Seq.{get_or-set_other}
 use borrow.Author.Tests.{leb-true}
 use Rattle.rules.specs.Instr.{fall}
 use Rattle.rules.specs.Machine.{SectionOrLine, unfixed, section, line, SectionCode, absent}
-use Rattle.rules.specs.Clean.{renNext, ren}
-use Rattle.rules.specs.Combine.{mate, combineAt}
+use Rattle.rules.specs.Clean.{renNext}
+use Rattle.rules.specs.Combine.{combineAt}
 use Rattle.rules.specs.Operations.{nextAhead, allAhead}
 use Rattle.laws.specs.Lists.{at-elem, at-past}
-use Rattle.joins.specs.Numbers.{fall-low, fall-grows, rises}
-use Rattle.joins.specs.Pairs.{Pair, Low}
-use Rattle.joins.specs.Joins.{Joint, Taken, Stands, joint, other, stands, second-in, at-join, start-join, next-not, mate-join}
+use Rattle.joins.specs.Numbers.{fall-grows, rises}
+use Rattle.joins.specs.Pairs.{Pair}
+use Rattle.joins.specs.Joins.{Taken, Stands, joint, other, stands, second-in, at-join, start-join, next-not}
 
 -- no successor that is no line start lies below its section
 abbrev pub Forward : List SectionCode → Type 0
@@ -27,19 +25,9 @@ pair-up m h i j pr = (let k = h i j pr.succ pr.inner in omega (arith, pr.apart),
 
 -- ---- what a join keeps
 
-module _ (m : List SectionCode) (i j : ℕ) (pr : Pair m i j) (up : i < j) where
+module _ (m : List SectionCode) (i j : ℕ) (pr : Pair m i j) where
   abbrev T : List SectionCode
   T = Taken m i j pr
-
-  -- what stands before i may take no more than before
-  pub low-join : Low m i → Low (combineAt m i j) i
-  low-join h t k =
-      let p : t ≡ j → ⊥ = λ e. omega arith in
-      let f : fall j t ≡ t = fall-low j t (omega arith) in
-      let g : get_or T t absent ≡ get_or m t absent = get_or-set_other m i t (Joint m i j pr) absent (λ e. omega arith) in
-      let s : get_or (combineAt m i j) t absent ≡ ren (fall j) (get_or m t absent) = ap (λ (x : ℕ). get_or (combineAt m i j) x absent) (sym f) ∙ (at-join m i j pr t p ∙ ap (ren (fall j)) g) in
-      let r = mate-join m i j pr t (get_or m t absent).success p (λ v e. next-not m i j pr t v p (ap (λ (s : SectionCode). s.success) g ∙ e)) (h t k) in
-      ap (λ (s : SectionCode). mate (combineAt m i j) t s.success) s ∙ (ap (λ (x : ℕ). mate (combineAt m i j) x (renNext (fall j) (get_or m t absent).success)) (sym f) ∙ r)
 
   -- the section that a renumbered successor was
   was : (x : SectionOrLine) (w : ℕ) → renNext (fall j) x ≡ section w → (v : ℕ) × (x ≡ section v) × (fall j v ≡ w)
@@ -51,11 +39,11 @@ module _ (m : List SectionCode) (i j : ℕ) (pr : Pair m i j) (up : i < j) where
   before h t v e s = fall-grows j t v (go (stands m i j pr t))
     where
       go : Stands m i j pr t → t ≤ v
-      go (joint f q) = let k = h j v (ap (λ (s : SectionCode). s.success) (sym q) ∙ e) s in omega arith
+      go (joint f q) = let k = h j v (ap (λ (s : SectionCode). s.success) (sym q) ∙ e) s in omega (arith, h i j pr.succ pr.inner)
       go (other f q) = h t v (ap (λ (s : SectionCode). s.success) (sym q) ∙ e) s
 
-  pub forward-join : Forward m → Forward (combineAt m i j)
-  forward-join h t w e s =
+  pub forward-step : Forward m → Forward (combineAt m i j)
+  forward-step h t w e s =
       let r = rises j t in
       let x = (get_or T r.from absent).success in
       let a : renNext (fall j) x ≡ section w = sym (ap (λ (s : SectionCode). s.success) (ap (λ (n : ℕ). get_or (combineAt m i j) n absent) (sym r.falls) ∙ at-join m i j pr r.from r.other)) ∙ e in
@@ -64,10 +52,6 @@ module _ (m : List SectionCode) (i j : ℕ) (pr : Pair m i j) (up : i < j) where
       let o : (get_or m b.0 absent).lineStart ≡ false = sym (start-join m i j pr b.0 n) ∙ (ap (λ (n : ℕ). (get_or (combineAt m i j) n absent).lineStart) b.2 ∙ s) in
       let k = before h r.from b.0 b.1 o in
       omega (arith, k, r.falls, b.2)
-
--- the pair is enough for that: its second stands above its first
-pub forward-step : (m : List SectionCode) (i j : ℕ) → Pair m i j → Forward m → Forward (combineAt m i j)
-forward-step m i j pr h = forward-join m i j pr (let k = h i j pr.succ pr.inner in omega (arith, pr.apart)) h
 
 -- ---- 15
 

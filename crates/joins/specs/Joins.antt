@@ -4,7 +4,7 @@ use Rattle.std.proofs.Common.{sym, ap, ◌∙◌, ◌⊎◌, inl, inr, arith, eq
 use Rattle.std.proofs.lemmas.Bool.{eqb-false, false≢true}
 use Rattle.std.proofs.lemmas.List.{length-map}
 use Rattle.std.proofs.Math.ListN.{length-set, get_or-map, get_or-eq_default}
-use Rattle.std.proofs.Math.Option.{none, some}
+use Rattle.std.proofs.Math.Option.{none, some, map as mapped}
 use Rattle.std.proofs.Math.Seq.{get_or-set_same, get_or-set_other}
 use Rattle.rules.specs.Instr.{fall}
 use Rattle.rules.specs.Machine.{SectionOrLine, unfixed, section, line, SectionCode, absent}
@@ -137,11 +137,11 @@ module _ (m : List SectionCode) (i j : ℕ) (pr : Pair m i j) where
   take-join t u p q = rw (fall-eqb j t u p q, start-join u q, refs-join u q)
 
   -- what a section may take in falls with it
-  pub mate-join : (t : ℕ) (x : SectionOrLine) → (t ≡ j → ⊥) → ((v : ℕ) → x ≡ section v → v ≡ j → ⊥) → mate m t x ≡ none → mate (combineAt m i j) (fall j t) (renNext (fall j) x) ≡ none
-  mate-join t unfixed p q h = refl
-  mate-join t (section v) p q h = go (mayTake m t v) refl h
+  pub mate-join : (t : ℕ) (x : SectionOrLine) → (t ≡ j → ⊥) → ((v : ℕ) → x ≡ section v → v ≡ j → ⊥) → mate (combineAt m i j) (fall j t) (renNext (fall j) x) ≡ mapped (fall j) (mate m t x)
+  mate-join t unfixed p q = refl
+  mate-join t (section v) p q = ap (λ (b : Bool). cond b (some (fall j v)) none) (take-join t v p (q v refl)) ∙ go (mayTake m t v)
     where
-      go : (b : Bool) → mayTake m t v ≡ b → cond b (some v) none ≡ none → cond (mayTake (combineAt m i j) (fall j t) (fall j v)) (some (fall j v)) none ≡ none
-      go true e k = let z : ◌≡◌ {A = ℕ} 0 1 = cc in absurd (omega arith)
-      go false e k = rw (take-join t v p (q v refl), e)
-  mate-join t (line r) p q h = refl
+      go : (b : Bool) → cond b (some (fall j v)) none ≡ mapped (fall j) (cond b (some v) none)
+      go true = refl
+      go false = refl
+  mate-join t (line r) p q = refl

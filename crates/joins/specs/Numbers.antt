@@ -20,13 +20,6 @@ fall-low j t h = rw (le-ltb j t h)
 pub fall-high : (j t : ℕ) → j < t → fall j t ≡ pred t
 fall-high j t h = rw (lt-ltb j t h)
 
-pub fall-le : (j t : ℕ) → fall j t ≤ t
-fall-le j t = go (lt-or-le j t)
-  where
-    go : (j < t) ⊎ (t ≤ j) → fall j t ≤ t
-    go (inl p) = rw (fall-high j t p) (omega arith)
-    go (inr p) = rw (fall-low j t p) (omega arith)
-
 pub fall-below : (j t n : ℕ) → t < suc n → (t ≡ j → ⊥) → j < suc n → fall j t < n
 fall-below j t n h ne k = go (lt-or-le j t)
   where
@@ -44,7 +37,7 @@ fall-grows j t u h = go (lt-or-le j t) (lt-or-le j u)
     go (inr a) (inr b) = omega (arith, fall-low j t a, fall-low j u b)
 
 -- numbers that are not j are the same where they fall to the same
-fall-same : (j t u : ℕ) → (t ≡ j → ⊥) → (u ≡ j → ⊥) → fall j t ≡ fall j u → t ≡ u
+pub fall-same : (j t u : ℕ) → (t ≡ j → ⊥) → (u ≡ j → ⊥) → fall j t ≡ fall j u → t ≡ u
 fall-same j t u p q e = go (lt-or-le j t) (lt-or-le j u)
   where
     go : (j < t) ⊎ (t ≤ j) → (j < u) ⊎ (u ≤ j) → t ≡ u

@@ -1,12 +1,14 @@
 -- A pair that may be joined, S1 and its successor S2, and the search for the lowest. Assumes nothing.
-use Rattle.std.specs.Prelude.{◌≡◌, refl, Bool, true, false, cond, not, ◌&&◌, List, [], ◌∷◌, ℕ, zero, suc, ◌+◌, ◌-◌, ◌<◌, eqb, length, get_or}
-use Rattle.std.proofs.Common.{sym, ap, ◌∙◌, le_of_suc-le-suc, not-suc-le-zero, arith, eqb-true}
+use Rattle.std.specs.Prelude.{◌≡◌, refl, ◌⊎◌, Bool, true, false, cond, not, ◌&&◌, List, [], ◌∷◌, ℕ, zero, suc, ◌+◌, ◌<◌, ◌≤◌, eqb, length, get_or}
+use Rattle.std.proofs.Common.{sym, ap, ◌∙◌, inl, inr, not-suc-le-zero, arith, eqb-true, ne_eqb}
 use Rattle.std.proofs.lemmas.Bool.{not-true}
-use Rattle.std.proofs.Math.Option.{Option, none, some}
+use Rattle.std.proofs.Math.Option.{Option, none, some, none-ne-some}
 use Rattle.std.proofs.lemmas.Bool.{eqb-false}
+use Rattle.std.proofs.Math.ListN.{get_or-eq_default}
 use Rattle.rules.specs.Machine.{SectionOrLine, unfixed, section, line, SectionCode, absent}
-use Rattle.rules.specs.Combine.{refs, mayTake, mate, pairFrom, pair, combineAt, combineFuel}
+use Rattle.rules.specs.Combine.{refs, mayTake, mate, pairFrom, pair, combineFuel}
 use Rattle.laws.specs.Lists.{both}
+use Rattle.joins.specs.Numbers.{lt-or-le}
 
 -- ---- a pair
 
@@ -27,7 +29,7 @@ mate-is m i j (section u) e = go (mayTake m i u) refl e
 mate-is m i j (line r) e = let z : ◌≡◌ {A = ℕ} 0 1 = cc in absurd (omega arith)
 
 -- a section that may take its successor in makes a pair with it
-pub pair-of : (m : List SectionCode) (i j : ℕ) → (get_or m i absent).success ≡ section j → mayTake m i j ≡ true → Pair m i j
+pair-of : (m : List SectionCode) (i j : ℕ) → (get_or m i absent).success ≡ section j → mayTake m i j ≡ true → Pair m i j
 pair-of m i j e h =
     let p = both (not (eqb i j)) (not (get_or m j absent).lineStart && eqb (refs j m) 1) h in
     let q = both (not (get_or m j absent).lineStart) (eqb (refs j m) 1) p.1 in
@@ -40,6 +42,10 @@ pair-of m i j e h =
 
 pub to-pair : (m : List SectionCode) (i j : ℕ) → mate m i (get_or m i absent).success ≡ some j → Pair m i j
 to-pair m i j e = let t = mate-is m i j (get_or m i absent).success e in pair-of m i j t.0 t.1
+
+-- and so does each pair
+pub of-pair : (m : List SectionCode) (i j : ℕ) → Pair m i j → mate m i (get_or m i absent).success ≡ some j
+of-pair m i j p = rw (p.succ, ne_eqb i j p.apart, p.inner, p.once)
 
 -- ---- the search
 
@@ -71,47 +77,39 @@ module _ (m : List SectionCode) where
   pub pair-found : (p : ℕ × ℕ) → pair m ≡ some p → Pair m p.0 p.1
   pair-found p e = found-pair m 0 p (λ t. ap (λ n. get_or m n absent) (sym (at-zero t))) e
 
-  -- the sections from k on, none of which may take its successor in
-  none-found : (k : ℕ) (ss : List SectionCode) → ((t : ℕ) → t < length ss → mate m (k + t) (get_or ss t absent).success ≡ none) → pairFrom m ss k ≡ none
-  none-found k [] h = refl
-  none-found k (s ∷ ss) h =
-      let z : k + 0 ≡ k = omega arith in
-      let e : mate m k s.success ≡ none = ap (λ (x : ℕ). mate m x s.success) (sym z) ∙ h 0 (omega arith) in
-      rw (e, pairFrom) (none-found (suc k) ss (λ t p. ap (λ (x : ℕ). mate m x (get_or ss t absent).success) (further k t) ∙ h (suc t) (omega arith)))
-
-  first-found : (k i j : ℕ) (ss : List SectionCode) → ((t : ℕ) → t < i → mate m (k + t) (get_or ss t absent).success ≡ none) → i < length ss → mate m (k + i) (get_or ss i absent).success ≡ some j → pairFrom m ss k ≡ some (k + i, j)
-  first-found k i j [] h l e = absurd (not-suc-le-zero l)
-  first-found k zero j (s ∷ ss) h l e =
-      let z : k + 0 ≡ k = omega arith in
-      let g : mate m k s.success ≡ some j = ap (λ (x : ℕ). mate m x s.success) (sym z) ∙ e in
-      rw (g, pairFrom, z)
-  first-found k (suc i) j (s ∷ ss) h l e =
-      let z : k + 0 ≡ k = omega arith in
-      let g : mate m k s.success ≡ none = ap (λ (x : ℕ). mate m x s.success) (sym z) ∙ h 0 (omega arith) in
-      rw (g, pairFrom)
-      (first-found (suc k) i j ss (λ t p. ap (λ (x : ℕ). mate m x (get_or ss t absent).success) (further k t) ∙ h (suc t) (omega arith)) (le_of_suc-le-suc l) (ap (λ (x : ℕ). mate m x (get_or ss i absent).success) (further k i) ∙ e)
-      ∙ ap (λ (x : ℕ). some (x, j)) (further k i))
-
-  pub low-none : Low m (length m) → pair m ≡ none
-  low-none h = none-found 0 m (λ t p. ap (λ (x : ℕ). mate m x (get_or m t absent).success) (at-zero t) ∙ h t p)
-
-  pub low-pair : (i j : ℕ) → Low m i → i < length m → mate m i (get_or m i absent).success ≡ some j → pair m ≡ some (i, j)
-  low-pair i j h l e =
-      first-found 0 i j m (λ t p. ap (λ (x : ℕ). mate m x (get_or m t absent).success) (at-zero t) ∙ h t p) l (ap (λ (x : ℕ). mate m x (get_or m i absent).success) (at-zero i) ∙ e)
-      ∙ ap (λ (x : ℕ). some (x, j)) (at-zero i)
-
-  pub low-more : (i : ℕ) → Low m i → mate m i (get_or m i absent).success ≡ none → Low m (i + 1)
-  low-more i h e t k = go (eqb t i) refl
+  -- where none is found, none of the sections from k on may take its successor in
+  none-from : (k : ℕ) (ss : List SectionCode) → pairFrom m ss k ≡ none → (t : ℕ) → t < length ss → mate m (k + t) (get_or ss t absent).success ≡ none
+  none-from k [] e t h = absurd (not-suc-le-zero h)
+  none-from k (s ∷ ss) e t h = go (mate m k s.success) refl (none-from (suc k) ss) e t h
     where
-      go : (b : Bool) → eqb t i ≡ b → mate m t (get_or m t absent).success ≡ none
-      go true q = rw (eqb-true t i q) e
-      go false q = h t (omega (arith, eqb-false t i q))
+      go : (o : Option ℕ) → mate m k s.success ≡ o → (pairFrom m ss (suc k) ≡ none → (t : ℕ) → t < length ss → mate m (suc k + t) (get_or ss t absent).success ≡ none) → elim o as (λ z. Option (ℕ × ℕ)) [ none ↦ pairFrom m ss (suc k) | some j ↦ some (k, j) ] ≡ none
+          → (t : ℕ) → t < suc (length ss) → mate m (k + t) (get_or (s ∷ ss) t absent).success ≡ none
+      go none q ih f zero l = let z : k + 0 ≡ k = omega arith in rw z q
+      go none q ih f (suc t) l = rw (← further k t) (ih f t (omega arith))
+      go (some j) q ih f t l = absurd (none-ne-some (k, j) (sym f))
+
+  -- and below one that is found, none may
+  low-from : (k : ℕ) (ss : List SectionCode) (p : ℕ × ℕ) → pairFrom m ss k ≡ some p → (t : ℕ) → t < length ss → k + t < p.0 → mate m (k + t) (get_or ss t absent).success ≡ none
+  low-from k [] p e t h b = absurd (not-suc-le-zero h)
+  low-from k (s ∷ ss) p e t h b = go (mate m k s.success) refl (low-from (suc k) ss p) e t h b
+    where
+      go : (o : Option ℕ) → mate m k s.success ≡ o → (pairFrom m ss (suc k) ≡ some p → (t : ℕ) → t < length ss → suc k + t < p.0 → mate m (suc k + t) (get_or ss t absent).success ≡ none)
+          → elim o [ none ↦ pairFrom m ss (suc k) | some j ↦ some (k, j) ] ≡ some p → (t : ℕ) → t < suc (length ss) → k + t < p.0 → mate m (k + t) (get_or (s ∷ ss) t absent).success ≡ none
+      go none q ih f zero l b = let z : k + 0 ≡ k = omega arith in rw z q
+      go none q ih f (suc t) l b = rw (← further k t) (ih f t (omega arith) (omega arith))
+      go (some j) q ih f t l b = let z : (k, j) ≡ p = cc in absurd (omega (arith, ap (λ (x : ℕ × ℕ). x.0) z))
+
+  pub none-low : pair m ≡ none → Low m (length m)
+  none-low e t h = rw at-zero at (none-from 0 m e t h)
+
+  pub found-low : (p : ℕ × ℕ) → pair m ≡ some p → Low m p.0
+  found-low p e t h = go (lt-or-le t (length m))
+    where
+      go : (t < length m) ⊎ (length m ≤ t) → mate m t (get_or m t absent).success ≡ none
+      go (inl l) = let z : 0 + t ≡ t = omega arith in rw z at (low-from 0 m p e t l (omega arith))
+      go (inr l) = rw (get_or-eq_default m absent l) refl
 
   -- ---- what combining makes of it
-
-  pub fuel-join : (k i j : ℕ) → 0 < k → pair m ≡ some (i, j) → combineFuel k m ≡ combineFuel (k - 1) (combineAt m i j)
-  fuel-join zero i j h e = absurd (omega arith)
-  fuel-join (suc k) i j h e = let z : suc k - 1 ≡ k = omega arith in rw (z, e, combineFuel)
 
   pub fuel-none : (k : ℕ) → pair m ≡ none → combineFuel k m ≡ m
   fuel-none zero e = refl

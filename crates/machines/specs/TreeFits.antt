@@ -1,27 +1,26 @@
 -- A parsed tree's lowered, cleaned and finished machines keep the rules of machine words.
-use Rattle.std.specs.Prelude.{◌≡◌, Bool, true, false, cond, not, ◌&&◌, ◌||◌, ℕ, zero, suc, ◌+◌, ◌≤◌, ◌<◌, eqb, get_or, set}
+use Rattle.std.specs.Prelude.{◌≡◌, Bool, true, false, cond, not, ◌&&◌, ◌||◌, ℕ, ◌+◌, ◌≤◌, ◌<◌, eqb, get_or}
 use Rattle.std.proofs.Math.Path.{refl, sym, ap, subst}
-use Rattle.std.proofs.Common.{ap₂, ◌∙◌, le_of_suc-le-suc, not-suc-le-zero, arith, length-set, length-append, get_or-set_other}
+use Rattle.std.proofs.Common.{◌∙◌, arith}
 use mathlib.Core.List.{List, [], ◌∷◌, map}
 use Rattle.std.proofs.Math.ListN.{length}
-use Rattle.std.proofs.lemmas.List.{length-map}
 use Rattle.rules.specs.Bits.{ok}
 use Rattle.rules.specs.Tree.{Tree}
 use Rattle.rules.specs.Parse.{parse}
-use Rattle.rules.specs.Instr.{fall}
 use Rattle.rules.specs.Machine.{SectionCode, absent, isFixed, Machine}
 use Rattle.rules.specs.Tables.{Counts, countsOf, nameFits, fits, encode}
 use Rattle.rules.specs.Annotate.{annotate}
 use Rattle.rules.specs.Assemble.{sectionsOf}
 use Rattle.rules.specs.Reading.{script}
-use Rattle.rules.specs.Clean.{renIns, ren, keep, rank, cleanSections, cleaned}
-use Rattle.rules.specs.Combine.{without, joined, combineAt, combineSections, combined}
+use Rattle.rules.specs.Clean.{ren, keep, rank, cleanSections, cleaned}
+use Rattle.rules.specs.Combine.{combineAt, combineSections, combined}
 use Rattle.rules.specs.Lowered.{Options, texts, lowered, finished}
 use Rattle.rules.specs.Preservation.{All, RegistersBelow}
 use Rattle.machines.specs.Ranks.{clean-ready}
 use Rattle.joins.specs.Along.{Ready, pair-below, combine-along, combine-ready}
 use Rattle.joins.specs.Pairs.{Pair}
 use Rattle.joins.specs.Joins.{length-join}
+use Rattle.joins.specs.Code.{ren-code, join-code}
 use Rattle.machines.specs.Lowered.{lower-fixed, lower-starts}
 use Rattle.machines.specs.FinishedCode.{lower-good, clean-good, combined-good}
 use Rattle.bounds.specs.Room.{Room, roomOf, NameBelow}
@@ -41,10 +40,6 @@ use Rattle.laws.specs.Sections.{keep-length}
 
 -- ---- how much code is left
 
-map-len : (f : ℕ → ℕ) (m : List SectionCode) → codeLen (map (ren f) m) ≡ codeLen m
-map-len f [] = refl
-map-len f (s ∷ m) = ap₂ (λ (a b : ℕ). a + b) (length-map s.instrs (renIns f)) (map-len f m)
-
 keep-len : (m : List SectionCode) → codeLen (keep m) ≤ codeLen m
 keep-len [] = omega arith
 keep-len (s ∷ m) = go (isFixed s.success) (keep-len m)
@@ -55,17 +50,7 @@ keep-len (s ∷ m) = go (isFixed s.success) (keep-len m)
 
 pub clean-len : (m : List SectionCode) → codeLen (cleanSections m) ≤ codeLen m
 unfolding cleanSections
-clean-len m = omega (arith, keep-len m, map-len (rank m) (keep m))
-
-set-len : (m : List SectionCode) (i : ℕ) (s : SectionCode) → i < length m → codeLen (set m i s) + length (get_or m i absent).instrs ≡ codeLen m + length s.instrs
-set-len [] i s h = absurd (not-suc-le-zero h)
-set-len (x ∷ m) zero s h = omega arith
-set-len (x ∷ m) (suc i) s h = omega (arith, set-len m i s (le_of_suc-le-suc h))
-
-without-len : (m : List SectionCode) (j : ℕ) → j < length m → codeLen (without m j) + length (get_or m j absent).instrs ≡ codeLen m
-without-len [] j h = absurd (not-suc-le-zero h)
-without-len (x ∷ m) zero h = omega arith
-without-len (x ∷ m) (suc j) h = omega (arith, without-len m j (le_of_suc-le-suc h))
+clean-len m = omega (arith, keep-len m, ren-code (rank m) (keep m), code-length (keep m), code-length (map (ren (rank m)) (keep m)))
 
 -- ---- what combining keeps besides
 
@@ -75,22 +60,14 @@ pub record Sizes (L n c : ℕ) (m : List SectionCode) : Type 0 where
   pub instrs : codeLen m ≤ c
 
 counts-step : (L : ℕ) (pos : 0 < L) (n c : ℕ) (m : List SectionCode) → Ready L m → (i j : ℕ) → Pair m i j → Sizes L n c m → Sizes L n c (combineAt m i j)
-unfolding combineAt
 counts-step L pos n c m r i j pr k =
     let b = pair-below L m r i j pr in
     let l = length-join m i j pr in
-    let J = joined (get_or m i absent) (get_or m j absent) in
-    let s = set m i J in
-    let e : get_or s j absent ≡ get_or m j absent = get_or-set_other m i j J absent (λ q. pr.apart (sym q)) in
-    let z = map-len (fall j) (without s j) in
     record {
       starts = omega (arith, b.1, b.2, l, k.starts);
       sections = omega (arith, l, k.sections);
-      instrs = omega (arith, k.instrs, z, without-len s j (omega (arith, b.1, length-set m i J)), set-len m i J b.0, ap (λ (y : SectionCode). length y.instrs) e, join-len (get_or m i absent) (get_or m j absent));
+      instrs = omega (arith, k.instrs, join-code m i j pr, code-length m, code-length (combineAt m i j));
     }
-  where
-    join-len : (a b : SectionCode) → length (joined a b).instrs ≡ length a.instrs + length b.instrs
-    join-len a b = simp length-append
 
 -- ---- the three machines
 
