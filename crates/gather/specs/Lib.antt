@@ -1,0 +1,2 @@
+-- the definition
+pub mod Gather

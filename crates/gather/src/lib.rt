@@ -1,0 +1,2 @@
+// Laws only: what is gathered in specs/, the laws in proofs/.
+#![tactic(auto)]
