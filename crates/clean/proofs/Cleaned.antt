@@ -26,6 +26,12 @@ keep-cons w ws is = rw read-cons
 fewer : (w : ℕ) (ws is : List ℕ) → countOf w + total ws ≤ length is → total ws ≤ length (drop (countOf w) is)
 fewer w ws is l = simp length-drop (omega arith)
 
+-- the words of instructions with their jumps renumbered
+pub jump-words : (f : ℕ → ℕ) (ws : List ℕ) → map (withJump f) ws ≡ map insWord (map (renIns f) (map wordIns ws))
+unfolding withJump
+jump-words f [] = refl
+jump-words f (w ∷ ws) = ap (λ (x : List ℕ). insWord (renIns f (wordIns w)) ∷ x) (jump-words f ws)
+
 module _ (f : ℕ → ℕ) (fb : (t : ℕ) → f t < mark) where
   sec-length : (w : ℕ) (is : List ℕ) → countOf w ≤ length is → length (ren f (sectionOf w is)).instrs ≡ countOf w
   unfolding countOf
@@ -36,14 +42,9 @@ module _ (f : ℕ → ℕ) (fb : (t : ℕ) → f t < mark) where
   sec-word k x w is h l =
       word-is k (ren f (sectionOf w is)) _ _ _ (ap isOne (both-start f fb x w h)) (both-success f fb x w h) (both-run-count f fb x w h ∙ count-is w ∙ sym (sec-length w is l))
 
-  jumps : (xs : List ℕ) → map insWord (map (renIns f) (map wordIns xs)) ≡ map (withJump f) xs
-  unfolding withJump
-  jumps [] = refl
-  jumps (x ∷ xs) = ap (λ (l : List ℕ). insWord (renIns f (wordIns x)) ∷ l) (jumps xs)
-
   sec-code : (w : ℕ) (is : List ℕ) → map insWord (ren f (sectionOf w is)).instrs ≡ map (withJump f) (take (countOf w) is)
   unfolding countOf
-  sec-code w is = jumps (take (wordRun w).count is)
+  sec-code w is = sym (jump-words f (take (wordRun w).count is))
 
   -- the kept words
   module _ (w : ℕ) (ws is : List ℕ) (j : ℕ) (h : bump j w < 65536) (l : countOf w ≤ length is) where

@@ -1,10 +1,10 @@
 // The new numbers of sections: while cleaning runs, the first-instruction field of each section's word carries the number of sections kept
-// up to and including it. Asks that there are at most 65,535. The numbered words and how many are kept stand beside each other in what reads
-// them: a struct of both would hold the words while they are written.
+// up to and including it. Asks that there are at most 65,535.
 ghost use Rattle.rules.specs.Constants.{mostCount};
 ghost use Rattle.std.specs.Prelude.{◌≡◌, map, ◌≤◌, ◌<◌, ◌+◌, pred, length};
 ghost use Rattle.clean.specs.Pass.{bump, newNumber, firstOf, Numbered};
 
+use crate::retarget::Numbering;
 use tables::word::is_fixed;
 use words::instr::Section;
 use words::section::SectionWord;
@@ -32,14 +32,23 @@ pub fn number(sections: &mut [u64]) -> u16
     k
 }
 
-// The new number of a section, from the numbered words; past them, the last one's.
-#[tactic(auto, using(crate::proofs::Single::new_number_is))]
-pub fn new_number(sections: &[u64], kept: u16, t: Section) -> Section
-    ensures { result.0 ≡ newNumber (map firstOf sections.now) kept t.0 }
-{
-    let through = match sections.get(usize::from(t.0)) {
-        Some(&w) => SectionWord(w).first(),
-        None => kept,
-    };
-    Section(through.saturating_sub(1))
+// The numbered words, and how many are kept.
+#[derive(Clone, Copy)]
+pub struct NewNumbers<'a> {
+    pub sections: &'a [u64],
+    pub kept: u16,
+}
+
+impl Numbering for NewNumbers<'_> {
+    ghost number_of = { λ n. newNumber (map firstOf n.sections.now) n.kept };
+
+    // From the numbered words; past them, the last one's.
+    #[tactic(auto, using(crate::proofs::Single::new_number_is))]
+    fn new_number(self, t: Section) -> Section {
+        let through = match self.sections.get(usize::from(t.0)) {
+            Some(&w) => SectionWord(w).first(),
+            None => self.kept,
+        };
+        Section(through.saturating_sub(1))
+    }
 }

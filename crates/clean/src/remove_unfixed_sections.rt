@@ -6,7 +6,7 @@ ghost use Rattle.std.specs.Prelude.{◌≡◌, ◌≤◌, length, take};
 ghost use Rattle.tables.specs.Runs.{total};
 ghost use Rattle.clean.specs.Pass.{Renumbered, Removed, Cleaned};
 
-use crate::number::number;
+use crate::number::{NewNumbers, number};
 use crate::pack::{Room, pack};
 use crate::retarget::{retarget_instructions, retarget_sections};
 
@@ -15,7 +15,11 @@ fn renumber(sections: &mut [u64], instructions: &mut [u64])
     ensures { Renumbered sections.old instructions.old sections.new instructions.new }
 {
     let kept = number(sections);
-    retarget_instructions(sections, instructions, kept);
+    let numbers = NewNumbers {
+        sections: &sections[..],
+        kept,
+    };
+    retarget_instructions(numbers, instructions);
     retarget_sections(sections, kept);
 }
 

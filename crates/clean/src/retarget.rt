@@ -1,39 +1,54 @@
-// Successors and jumps get the new numbers of their sections, in place, from the numbered words. Assumes nothing.
-ghost use Rattle.std.specs.Prelude.{◌≡◌, map};
+// Successors and jumps get the new numbers of their sections. What the new numbers are is left to whoever renumbers (`Numbering`); cleaning reads them
+// from the numbered words, and rewrites both tables in place. Assumes nothing.
+ghost use Rattle.std.specs.Prelude.{◌≡◌, ℕ, map};
+ghost use Rattle.rules.specs.Clean.{renNext};
+ghost use Rattle.words.specs.Runs.{successTold};
 ghost use Rattle.clean.specs.Pass.{firstOf, newNumber, withTarget, withJump};
 
-use crate::number::new_number;
+use crate::number::NewNumbers;
 use words::instr::{Instruction, Section};
 use words::section::{SectionOrLine, SectionWord};
 
-// The arm that changes is join's too (`success_without`): one function of both would take the new number as a closure, with its contract.
-#[tactic(auto, unfolding(crate::specs::Pass::withTarget))]
-fn with_target(sections: &[u64], kept: u16, w: SectionWord) -> SectionWord
-    ensures { result.0 ≡ withTarget (newNumber (map firstOf sections.now) kept) w.0 }
+// New numbers of sections.
+pub trait Numbering: Copy {
+    ghost number_of: { Self → ℕ → ℕ };
+
+    fn new_number(self, t: Section) -> Section
+        ensures { result.0 ≡ number_of self t.0 };
+}
+
+pub fn new_success<N: Numbering>(numbering: N, success: SectionOrLine) -> SectionOrLine
+    ensures { successTold result ≡ renNext (N.number_of numbering) (successTold success) }
 {
-    let success = match w.success() {
-        SectionOrLine::Section(s) => SectionOrLine::Section(new_number(sections, kept, s)),
-        other => other,
-    };
-    w.with_success(success)
+    match success {
+        SectionOrLine::Section(s) => SectionOrLine::Section(numbering.new_number(s)),
+        unmoved => unmoved,
+    }
 }
 
 #[tactic(auto, unfolding(crate::specs::Pass::withJump, rules::specs::Instr::getSection))]
-fn with_jump(sections: &[u64], kept: u16, w: Instruction) -> Instruction
-    ensures { result.0 ≡ withJump (newNumber (map firstOf sections.now) kept) w.0 }
+pub fn with_jump<N: Numbering>(numbering: N, w: Instruction) -> Instruction
+    ensures { result.0 ≡ withJump (N.number_of numbering) w.0 }
 {
     match w.get_section() {
-        Some(s) => w.aimed(new_number(sections, kept, s)),
+        Some(s) => w.aimed(numbering.new_number(s)),
         None => w.plain(),
     }
 }
 
-pub fn retarget_instructions(sections: &[u64], instructions: &mut [u64], kept: u16)
-    ensures { instructions.new ≡ map (withJump (newNumber (map firstOf sections.now) kept)) instructions.old }
+pub fn retarget_instructions(numbers: NewNumbers, instructions: &mut [u64])
+    ensures { instructions.new ≡ map (withJump (newNumber (map firstOf numbers.entry.sections.now) numbers.entry.kept)) instructions.old }
 {
     for w in instructions.iter_mut() {
-        *w = with_jump(sections, kept, Instruction(*w)).0;
+        *w = with_jump(numbers, Instruction(*w)).0;
     }
+}
+
+#[tactic(auto, unfolding(crate::specs::Pass::withTarget))]
+fn with_target(numbers: NewNumbers, w: SectionWord) -> SectionWord
+    ensures { result.0 ≡ withTarget (newNumber (map firstOf numbers.entry.sections.now) numbers.entry.kept) w.0 }
+{
+    w.with_success(new_success(numbers, w.success()))
 }
 
 // By index: each turn reads the numbers of all the words.
@@ -41,7 +56,11 @@ pub fn retarget_sections(sections: &mut [u64], kept: u16)
     ensures { sections.new ≡ map (withTarget (newNumber (map firstOf sections.old) kept)) sections.old }
 {
     for i in 0..sections.len() {
-        let v = with_target(sections, kept, SectionWord(sections[i]));
+        let numbers = NewNumbers {
+            sections: &sections[..],
+            kept,
+        };
+        let v = with_target(numbers, SectionWord(sections[i]));
         sections[i] = v.0;
     }
 }
