@@ -24,7 +24,7 @@ use Rattle.tables.specs.Runs.{countOf, total, sectionOf, held}
 use Rattle.std.proofs.lemmas.Bool.{false≢true}
 use Rattle.tables.proofs.Sound.{Sound as Keeps}
 use Rattle.tables.proofs.Read.{read-nil, read-cons, read-length, all-cons, whole-total, total-nil, total-cons}
-use Rattle.join.specs.Held.{SectSmall, Sound}
+use Rattle.combine.specs.Held.{SectSmall, Sound}
 use Rattle.combine.proofs.Counted.{one-code}
 
 -- each word of a list has 64 bits

@@ -1,7 +1,7 @@
--- References in words are `refs` of `rules` on what the words hold: `refs-are`. Assumes nothing.
+-- References in words are `refs` of `rules` on what the words hold: `refs-are`. Assumes nothing but that the runs cover the instructions.
 use Rattle.std.specs.Prelude.{◌≡◌, refl, Bool, true, false, cond, List, [], ◌∷◌, ◌++◌, map, ℕ, ◌+◌, length, take, drop}
 use Rattle.std.proofs.Common.{sym, ap, ◌∙◌, arith, length-drop, take-append-drop}
-use Rattle.std.proofs.Math.Option.{none, some}
+use Rattle.std.proofs.Math.Option.{Option, none, some}
 use Rattle.rules.specs.Instr.{Instruction, isJump, getSection}
 use Rattle.rules.specs.Word.{wordRun, wordIns}
 use Rattle.rules.specs.Machine.{SectionOrLine, unfixed, section, line}
@@ -9,7 +9,23 @@ use Rattle.rules.specs.Tables.{successOf, readSections}
 use Rattle.rules.specs.Combine.{hit, refsNext, refsIns, refsCode, refs}
 use Rattle.tables.specs.Runs.{countOf, total, sectionOf}
 use Rattle.tables.proofs.Read.{read-nil, read-cons, total-nil, total-cons}
-use Rattle.combine.specs.Counting.{nextOf, hits, refsNexts, refsJumps}
+use Rattle.combine.specs.Counting.{nextOf}
+
+-- one where it is t
+abbrev pub hits : ℕ → Option ℕ → ℕ
+hits t none = 0
+hits t (some u) = hit u t
+
+-- section words whose successor is t, instruction words that jump to t
+unfoldable pub refsNexts : ℕ → List ℕ → ℕ
+unfolding successOf
+refsNexts t [] = 0
+refsNexts t (w ∷ ws) = hits t (nextOf (successOf (wordRun w))) + refsNexts t ws
+
+unfoldable pub refsJumps : ℕ → List ℕ → ℕ
+unfolding getSection
+refsJumps t [] = 0
+refsJumps t (w ∷ ws) = hits t (getSection (wordIns w)) + refsJumps t ws
 
 next-hits : (t : ℕ) (x : SectionOrLine) → refsNext t x ≡ hits t (nextOf x)
 next-hits t unfixed = refl
@@ -34,11 +50,11 @@ unfolding refsJumps
 jumps-append t [] vs = omega arith
 jumps-append t (u ∷ us) vs = omega (arith, jumps-append t us vs)
 
-nexts-cons : (t w : ℕ) (ws : List ℕ) → refsNexts t (w ∷ ws) ≡ refsNext t (successOf (wordRun w)) + refsNexts t ws
+pub nexts-cons : (t w : ℕ) (ws : List ℕ) → refsNexts t (w ∷ ws) ≡ refsNext t (successOf (wordRun w)) + refsNexts t ws
 unfolding refsNexts
 nexts-cons t w ws = rw (next-hits t (successOf (wordRun w)))
 
-nexts-nil : (t : ℕ) → refsNexts t [] ≡ 0
+pub nexts-nil : (t : ℕ) → refsNexts t [] ≡ 0
 unfolding refsNexts
 nexts-nil t = refl
 

@@ -17,12 +17,12 @@ use Rattle.rules.specs.Preservation.{All}
 use Rattle.laws.specs.Words.{InsSmall}
 use Rattle.machines.specs.Fits.{Held, Counted, SectFit, AllAt, MachineFit, ins-small, next-small}
 use Rattle.tables.specs.Runs.{held}
-use Rattle.join.specs.Held.{SectSmall, Holds, Sound}
-use Rattle.join.proofs.Back.{sound, holds-held}
+use Rattle.combine.specs.Held.{SectSmall, Holds, Sound}
+use Rattle.combine.proofs.Back.{sound, holds-held}
 use Rattle.laws.specs.Lists.{all-left, all-right, all-map}
 use Rattle.laws.specs.Sections.{words-length}
 use Rattle.combine.specs.Combined.{Combined, Written}
-use Rattle.combine.proofs.Loop.{put-twice}
+use Rattle.combine.proofs.Used.{put-twice}
 
 -- ---- what keeps the rules fits its fields
 module _ (u : Counts) (c : Counted u) where

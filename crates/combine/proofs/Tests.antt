@@ -10,12 +10,11 @@ use Rattle.std.proofs.Math.Seq.{get_or-take, length-take-le}
 use borrow.Author.Tests.{ltb-true, ltb-false}
 use Rattle.rules.specs.Bits.{isOne}
 use Rattle.rules.specs.Word.{wordRun}
-use Rattle.rules.specs.Machine.{SectionOrLine, unfixed, section, line, SectionCode, absent}
+use Rattle.rules.specs.Machine.{SectionOrLine, unfixed, section, line, SectionCode}
 use Rattle.rules.specs.Tables.{allb, successOf, readSections}
 use Rattle.rules.specs.Operations.{fixedHere, nextAhead, allAhead}
 use Rattle.tables.specs.Runs.{countOf, sectionOf, fixedWord}
 use Rattle.tables.proofs.Read.{read-nil, read-cons, all-nil, all-cons, fixed-is}
-use Rattle.laws.specs.Lists.{at-elem, at-past}
 use Rattle.combine.specs.Tests.{startAt, nextIn, wordsAhead}
 
 -- ---- 14
@@ -36,25 +35,6 @@ elem-past : (ws is : List ℕ) (t : ℕ) → length ws ≤ t → get_elem? (read
 elem-past [] is t h = rw read-nil
 elem-past (w ∷ ws) is zero h = absurd (omega arith)
 elem-past (w ∷ ws) is (suc t) h = rw read-cons (elem-past ws (drop (countOf w) is) t (omega arith))
-
--- the line start and the successor of section t
-module _ (s i : List ℕ) (n : ℕ) (h : n ≤ length s) (t : ℕ) where
-  module _ (k : t < n) where
-    long : t < length (take n s)
-    long = omega (arith, length-take-le n s h)
-
-    pub start-at : (get_or (readSections (take n s) i) t absent).lineStart ≡ isOne (wordRun (get_or s t 0)).lineStart
-    start-at =
-        let e = elem-at (take n s) i t long in
-        ap (λ (x : SectionCode). x.lineStart) (at-elem (readSections (take n s) i) t absent e.0 e.1) ∙ (e.2 ∙ ap (λ (w : ℕ). isOne (wordRun w).lineStart) (get_or-take n s t 0 k))
-
-    pub success-at : (get_or (readSections (take n s) i) t absent).success ≡ successOf (wordRun (get_or s t 0))
-    success-at =
-        let e = elem-at (take n s) i t long in
-        ap (λ (x : SectionCode). x.success) (at-elem (readSections (take n s) i) t absent e.0 e.1) ∙ (e.3 ∙ ap (λ (w : ℕ). successOf (wordRun w)) (get_or-take n s t 0 k))
-
-  pub past-at : n ≤ t → get_or (readSections (take n s) i) t absent ≡ absent
-  past-at k = at-past (readSections (take n s) i) t absent (elem-past (take n s) i t (omega (arith, length-take-le n s h)))
 
 module _ (s i : List ℕ) (n : ℕ) (h : n ≤ length s) where
   next-is : (k : ℕ) (x : SectionOrLine) → nextAhead (readSections (take n s) i) k x ≡ nextIn s n k x

@@ -1,83 +1,18 @@
--- Each way out of the tests on one section. Assumes nothing.
-use mathlib.Core.Path.{◌≡◌, refl, sym, ap, ◌∙◌}
-use mathlib.Core.Bool.{Bool, true, false, cond, ◌||◌}
+-- Each way out of the test of 15 on one section. Assumes nothing.
+use mathlib.Core.Path.{◌≡◌, refl, ◌∙◌}
+use mathlib.Core.Bool.{Bool, true, ◌||◌}
 use mathlib.Core.Option.{none, some}
 use mathlib.Core.List.{List}
-use Prim.Native.Nat.{ℕ, ◌+◌, ◌<◌, ◌≤◌}
-use native.Mathlib.Omega.{arith}
-use lib.Dec.{eqb, leb}
-use lib.ListN.{length, take, get_or}
-use lib.Seq.{take-length}
+use Prim.Native.Nat.{ℕ, ◌<◌, ◌≤◌}
+use lib.Dec.{leb}
+use lib.ListN.{get_or}
 use borrow.Author.Tests.{lt-ltb, le-ltb}
 use Rattle.rules.specs.Bits.{isOne}
 use Rattle.rules.specs.Word.{wordRun}
-use Rattle.rules.specs.Machine.{SectionOrLine, unfixed, section, line, absent}
+use Rattle.rules.specs.Machine.{SectionOrLine, unfixed, section, line}
 use Rattle.rules.specs.Tables.{successOf}
-use Rattle.rules.specs.Combine.{refs, mayTake, mate}
-use Rattle.tables.specs.Runs.{total, held}
-use Rattle.join.specs.Held.{Sound}
-use Rattle.join.proofs.Back.{holds-tell}
-use Rattle.join.proofs.Tells.{tell-total}
-use Rattle.combine.specs.Counting.{nextOf, refsNexts, refsJumps}
-use Rattle.combine.proofs.Counted.{refs-are}
+use Rattle.combine.specs.Counting.{nextOf}
 use Rattle.combine.specs.Tests.{startAt, nextIn, wordAhead}
-use Rattle.combine.proofs.Tests.{start-at, success-at}
-
-module _ (s i : List ℕ) (h : Sound s i (length s) (length i)) where
-  abbrev n : ℕ
-  n = length s
-
-  abbrev e : ℕ
-  e = length i
-
-  -- the runs cover the instructions
-  covered : total s ≡ length i
-  covered = ap total (sym (take-length s) ∙ h.sections) ∙ (tell-total _ (held s i n e) (holds-tell s i n e (held s i n e) h) ∙ h.code)
-
-  pub refs-counted : (t a b : ℕ) → a ≡ refsNexts t s → b ≡ refsJumps t i → a + b ≡ refs t (held s i n e)
-  unfolding held
-  refs-counted t a b p q = rw (p, q, take-length s, take-length i) (sym (refs-are t s i covered))
-
-  long : n ≤ length s
-  long = omega arith
-
-  -- ---- may s1 take s2 in?
-
-  module _ (s1 s2 : ℕ) (p : eqb s1 s2 ≡ false) (q : s2 < n) where
-    starts : (get_or (held s i n e) s2 absent).lineStart ≡ isOne (wordRun (get_or s s2 0)).lineStart
-    unfolding held
-    starts = start-at s (take e i) n long s2 q
-
-    pub not-start : true ≡ isOne (wordRun (get_or s s2 0)).lineStart → false ≡ mayTake (held s i n e) s1 s2
-    not-start z = rw (p, starts, ← z)
-
-    pub by-refs : false ≡ isOne (wordRun (get_or s s2 0)).lineStart → (c : Bool) → c ≡ eqb (refs s2 (held s i n e)) 1 → c ≡ mayTake (held s i n e) s1 s2
-    by-refs z c c-is = c-is ∙ rw (p, starts, ← z)
-
-  -- ---- the section that s1 may take in
-
-  module _ (s1 : ℕ) (k : s1 < n) where
-    success-is : (get_or (held s i n e) s1 absent).success ≡ successOf (wordRun (get_or s s1 0))
-    unfolding held
-    success-is = success-at s (take e i) n long s1 k
-
-    pub no-next : none ≡ nextOf (successOf (wordRun (get_or s s1 0))) → none ≡ mate (held s i n e) s1 (get_or (held s i n e) s1 absent).success
-    no-next q = rw success-is (none-of (successOf (wordRun (get_or s s1 0))) q)
-      where
-        none-of : (y : SectionOrLine) → none ≡ nextOf y → none ≡ mate (held s i n e) s1 y
-        none-of unfixed q = refl
-        none-of (section t) q = cc
-        none-of (line r) q = refl
-
-    pub takes : (s2 : ℕ) → some s2 ≡ nextOf (successOf (wordRun (get_or s s1 0))) → (b : Bool) → b ≡ mayTake (held s i n e) s1 s2 → cond b (some s2) none ≡ mate (held s i n e) s1 (get_or (held s i n e) s1 absent).success
-    takes s2 q b m = rw success-is (some-of (successOf (wordRun (get_or s s1 0))) q)
-      where
-        some-of : (y : SectionOrLine) → some s2 ≡ nextOf y → cond b (some s2) none ≡ mate (held s i n e) s1 y
-        some-of unfixed q = cc
-        some-of (section t) q = let z : s2 ≡ t = cc in rw (m, z)
-        some-of (line r) q = cc
-
--- ---- 15
 
 module _ (s : List ℕ) (n i w : ℕ) where
   pub ahead-none : none ≡ nextOf (successOf (wordRun w)) → true ≡ wordAhead s n i w

@@ -1,7 +1,12 @@
+-- words that hold sections
+pub mod Held
 -- references and tests in words
 pub mod Counting
 pub mod Tests
+-- new numbers, chains and stores
+pub mod Numbers
+pub mod Stores
+pub mod Chains
+pub mod Writes
 -- what the pass leaves
 pub mod Combined
--- one proof of what words hold
-pub mod Code

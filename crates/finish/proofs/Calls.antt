@@ -19,7 +19,7 @@ use Rattle.rules.specs.Operations.{sizeOf, estimate, holds, put, write, build, l
 use Rattle.bounds.specs.Parsed.{refused≢ok}
 use Rattle.walks.proofs.Theorems.{lowered-estimated}
 use Rattle.tables.specs.Runs.{held}
-use Rattle.combine.proofs.Loop.{put-twice}
+use Rattle.combine.proofs.Used.{put-twice}
 use Rattle.finish.specs.Passes.{Lowered, finishSections, Finished}
 use Rattle.machines.specs.Back.{put-begins}
 use Rattle.laws.specs.Sections.{words-length}

@@ -25,8 +25,8 @@ use Rattle.tables.specs.Runs.{total, held}
 use Rattle.tables.proofs.Sound.{sound}
 use Rattle.tables.proofs.Read.{whole-total}
 use Rattle.clean.specs.Pass.{Cleaned}
-use Rattle.join.specs.Held.{Sound}
-use Rattle.join.proofs.Back.{holds-held}
+use Rattle.combine.specs.Held.{Sound}
+use Rattle.combine.proofs.Back.{holds-held}
 use Rattle.combine.specs.Combined.{Combined}
 use Rattle.combine.proofs.Ready.{Ready, fit-holds, ready, written-over}
 use Rattle.finish.specs.Passes.{Lowered, finishSections, Finished}
