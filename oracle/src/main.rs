@@ -10,11 +10,11 @@ const USAGE: &str = "usage:
   oracle tree HEX [OPTIONS]
   oracle machine replace|clean|combine LINE
   oracle finlist < FILE
-  oracle generate trees|damaged|machines SEED COUNT [MAXBYTES]
+  oracle generate trees|damaged|machines|chains SEED COUNT [MAXBYTES]
   oracle self-test SEED COUNT
   oracle walks SEED COUNT
   oracle theorems trees|damaged|machines|finlist|texts|limits|instr|walks SEED COUNT DIR
-  oracle record trees|machines|texts SEED";
+  oracle record trees|machines|texts|chains SEED";
 
 fn machine_line(machine: &machine::Machine) -> String {
     let (counts, tables) = machine::pack(machine);
@@ -72,6 +72,7 @@ fn generate_command(kind: &str, seed: &str, count: &str, most_bytes: usize) -> O
             .iter()
             .map(case_line)
             .collect(),
+        "chains" => generate::chains::cases(seed, count).iter().map(case_line).collect(),
         _ => return None,
     };
     Some(lines.join("\n"))
@@ -106,6 +107,7 @@ fn run(words: &[&str]) -> Option<String> {
         ["generate", kind, seed, count, most] => generate_command(kind, seed, count, most.parse().ok()?),
         ["record", "trees", seed] => Some(record::of_trees(seed.parse().ok()?)),
         ["record", "machines", seed] => Some(record::of_machines(seed.parse().ok()?)),
+        ["record", "chains", seed] => Some(record::of_chains(seed.parse().ok()?)),
         ["record", "texts", seed] => Some(record::of_texts(seed.parse().ok()?)),
         ["theorems", kind, seed, count, folder] => theorems_command(kind, seed, count, folder),
         ["self-test", seed, count] => report_command(selftest::run, seed, count),

@@ -1,8 +1,9 @@
 //! Recorded answers for others to replay: one case a line, parts parted by `;`. See README.md.
 
 use crate::bits::hex;
-use crate::generate::{damaged, machines, texts, trees};
+use crate::generate::{chains, damaged, machines, texts, trees};
 use crate::judge::{change, machine_of, text, Answer, Options, Stage};
+use crate::limits::R_BACKWARDS;
 use crate::line;
 use crate::machine::{pack, Machine};
 use crate::rng::Rng;
@@ -13,6 +14,7 @@ const VALID: usize = 190;
 const DAMAGED: usize = 130;
 const LARGER: usize = 6;
 const MACHINES: usize = 240;
+const CHAINS: usize = 70;
 const TEXTS: usize = 80;
 const SMALL_BYTES: usize = 100;
 const LARGER_BYTES: usize = 400;
@@ -79,10 +81,11 @@ pub fn of_trees(seed: u64) -> String {
     lines.join("\n")
 }
 
-pub fn of_machines(seed: u64) -> String {
+/// A line for each, and the refusals among them are those wanted.
+fn of_cases(cases: Vec<machines::Case>, wanted: &[u8]) -> String {
     let mut seen = BTreeSet::new();
     let mut lines = vec![];
-    for (op, counts, tables) in machines::cases(seed, MACHINES, SMALL_BYTES) {
+    for (op, counts, tables) in cases {
         let (answer, after) = change(op, &counts, &tables);
         if let Answer::Refused(n) = answer {
             seen.insert(n);
@@ -90,8 +93,24 @@ pub fn of_machines(seed: u64) -> String {
         let answer = answer.show(|counts| line::print(counts, &after));
         lines.push(format!("M;{};{};{answer}", op.name(), line::print(&counts, &tables)));
     }
-    require(&seen, &MACHINE_REFUSALS);
+    require(&seen, wanted);
     lines.join("\n")
+}
+
+pub fn of_machines(seed: u64) -> String {
+    of_cases(machines::cases(seed, MACHINES, SMALL_BYTES), &MACHINE_REFUSALS)
+}
+
+/// Has the program that replays the list room for these tables?
+fn has_room((_, _, t): &machines::Case) -> bool {
+    t.sections.len() <= 64 && t.instrs.len() <= 256 && t.numbers.len() <= 64
+}
+
+pub fn of_chains(seed: u64) -> String {
+    let mut cases = chains::cases(seed, 2 * CHAINS);
+    cases.retain(has_room);
+    cases.truncate(CHAINS);
+    of_cases(cases, &[R_BACKWARDS])
 }
 
 pub fn of_texts(seed: u64) -> String {

@@ -1,7 +1,7 @@
 //! The judge held to itself: what is written is read again, and yogi answers all that is accepted.
 
 use crate::figures;
-use crate::generate::{damaged, machines, trees};
+use crate::generate::{chains, damaged, machines, trees};
 use crate::judge::{build, change, machine_of, size, Answer, Op, Options, Stage};
 use crate::limits::MOST_BYTES;
 use crate::machine::{pack, sound, Machine, Tables};
@@ -112,11 +112,11 @@ fn check_random_bytes(tally: &mut Tally, rng: &mut Rng) {
     check_file(tally, kind, &bytes, Options::DEFAULT);
 }
 
-fn check_change(tally: &mut Tally, op: Op, case: &machines::Case) {
-    let (_, counts, tables) = case;
+fn check_change(tally: &mut Tally, kind: &str, (op, counts, tables): &machines::Case) {
+    let op = *op;
     let (answer, after) = change(op, counts, tables);
     let shown = answer.show(|_| "done".into());
-    tally.count(format!("machines, {}: {shown}", op.name()));
+    tally.count(format!("{kind}, {}: {shown}", op.name()));
     tally.require(answer != Answer::Panic, || {
         format!("yogi panics: {} {}", op.name(), crate::line::print(counts, tables))
     });
@@ -172,7 +172,10 @@ pub fn run(seed: u64, count: usize) -> (String, bool) {
         check_random_bytes(&mut tally, &mut rng);
     }
     for case in machines::cases(seed, count, 2 * MOST_BYTES) {
-        check_change(&mut tally, case.0, &case);
+        check_change(&mut tally, "machines", &case);
+    }
+    for case in chains::cases(seed, count) {
+        check_change(&mut tally, "chains", &case);
     }
     (tally.text(), tally.bad.is_empty())
 }

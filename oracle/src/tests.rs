@@ -2,10 +2,11 @@
 
 use crate::bits::unhex;
 use crate::finlist::finlist;
-use crate::generate::broken;
+use crate::generate::{broken, chains};
 use crate::judge::{ask_yogi, change, jump_targets, machine_of, pass, Answer, Op, Options, Stage};
 use crate::line;
 use crate::machine::{op, pack, unpack, Ins, Kind, Machine, Next};
+use crate::rng::Rng;
 use crate::tree::{decode, encode, Expr, Name, Stmt, Tree};
 use crate::yogi::ir::glue::{construct, instrs};
 
@@ -192,6 +193,25 @@ fn each_rule_is_broken() {
             .count();
         assert!(refused >= 30, "breakage {how}: only {refused} of 60 are refused");
     }
+}
+
+/// Of each chain that nothing breaks yogi leaves one section, and every instruction.
+#[test]
+fn chains_are_joined() {
+    let mut rng = Rng::new(1);
+    let mut joins = 0;
+    for layout in chains::Layout::ALL {
+        for _ in 0..100 {
+            let (machine, chains) = chains::unbroken(&mut rng, layout);
+            let Answer::Done(after) = pass(Op::Combine, &machine) else {
+                panic!("yogi panics")
+            };
+            assert_eq!(after.sections.len(), chains, "{}", layout.name());
+            assert_eq!(code(&after).len(), code(&machine).len());
+            joins += machine.sections.len() - chains;
+        }
+    }
+    assert!(joins > 5_000, "{joins}");
 }
 
 /// What yogi says of single instructions, as the theorems have it.

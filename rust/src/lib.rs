@@ -17,7 +17,7 @@
 //! ```
 //!
 //! Every call may be made from several threads at once: the library has no state of its own. The tests make calls on stacks of 2 MiB, and of
-//! 256 KiB for the deepest trees.
+//! 256 KiB for the deepest and the largest trees.
 
 mod instr;
 mod machine;

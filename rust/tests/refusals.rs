@@ -76,10 +76,6 @@ fn of_short_tables() {
     }
 }
 
-fn section(start: u64, target: u64, first: u64, count: u64) -> u64 {
-    start << 63 | target << 46 | first << 30 | count << 14
-}
-
 fn machine(sections: Vec<u64>, instructions: Vec<u64>) -> Machine {
     let counts = Counts { lines: 1, sections: sections.len(), instructions: instructions.len(), numbers: 1, values: 1, ..Counts::default() };
     Machine::of_words(counts, Tables { sections, instructions, numbers: vec![0], ..Tables::default() })

@@ -1,11 +1,13 @@
 //! The static library beside the judge: the same inputs to both, and every lent word compared.
-//! Usage: compare SEED FILES MACHINES; compare build SEED FILES for lower and finish; compare big for the time of the largest machines
+//! Usage: compare SEED FILES MACHINES; compare chains SEED MACHINES for combining alone; compare build SEED FILES for lower and finish; compare big
+//! for the time of the largest machines
 
 mod big;
 mod builds;
 mod library;
 mod tally;
 
+use oracle::generate::chains::{self, Layout};
 use oracle::generate::machines::{self, Case};
 use oracle::judge::{self, Answer, Op};
 use oracle::limits::MOST_COUNT;
@@ -55,7 +57,8 @@ fn lent_counts(case: &Case) -> Vec<u64> {
     case.1.row().iter().map(|&n| n as u64).chain([GUARD]).collect()
 }
 
-fn compare_change(tally: &mut Tally, case: &Case) {
+/// How many sections are gone by the judge.
+fn compare_change(tally: &mut Tally, case: &Case) -> usize {
     let lent = lent_counts(case);
     let (answer, tables) = judge::change(case.0, &case.1, &case.2);
     let (number, after) = match answer {
@@ -69,6 +72,7 @@ fn compare_change(tally: &mut Tally, case: &Case) {
     let got = library::change(case.0, &mut words, &mut got_tables);
     let same = got == number && words == after && got_tables == tables;
     tally.count(number != 0, same, &|| oracle::line::print(&case.1, &case.2));
+    case.1.sections - after[1] as usize
 }
 
 /// Too few counts are 11 before all else, and nothing is written.
@@ -128,6 +132,25 @@ fn compare_machines(seed: u64, count: usize) -> Vec<Tally> {
     tallies
 }
 
+/// Combining, a tally each way that chains lie, and one of long tables.
+fn compare_chains(seed: u64, count: usize) -> Vec<Tally> {
+    let mut rng = Rng::new(seed);
+    let mut tallies: Vec<Tally> = Layout::ALL.iter().map(|layout| Tally::new(layout.name())).collect();
+    let mut joins = 0;
+    for (layout, tally) in Layout::ALL.into_iter().zip(&mut tallies) {
+        for _ in 0..count / Layout::ALL.len() {
+            joins += compare_change(tally, &chains::case(&mut rng, layout));
+        }
+    }
+    let mut long = Tally::new("long tables");
+    for case in chains::long(&mut rng) {
+        joins += compare_change(&mut long, &case);
+    }
+    tallies.push(long);
+    println!("combine: {joins} joins");
+    tallies
+}
+
 fn all(seed: u64, files: usize, machines: usize) -> Vec<Tally> {
     let mut tallies = compare_files(seed, files);
     tallies.extend(compare_machines(seed, machines));
@@ -145,9 +168,10 @@ fn main() -> ExitCode {
             return ExitCode::SUCCESS;
         }
         ("build", &[seed, files]) => builds::run(seed, files as usize),
+        ("chains", &[seed, machines]) => compare_chains(seed, machines as usize),
         (_, &[seed, files, machines]) => all(seed, files as usize, machines as usize),
         _ => {
-            eprintln!("usage: compare SEED FILES MACHINES, compare build SEED FILES, or compare big");
+            eprintln!("usage: compare SEED FILES MACHINES, compare chains SEED MACHINES, compare build SEED FILES, or compare big");
             return ExitCode::from(2);
         }
     };

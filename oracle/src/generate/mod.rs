@@ -1,6 +1,7 @@
 //! Inputs, repeatable by their seed.
 
 pub mod broken;
+pub mod chains;
 pub mod damaged;
 pub mod fixed;
 pub mod fixed_machines;

@@ -118,13 +118,21 @@ fn shown(seconds: f64) -> String {
     }
 }
 
-fn row(what: &str, script: &Script) {
+/// Prints a script's row.
+fn row(what: &str, script: &Script) -> Times {
     let nodes = size(&script.pack().expect("a script that can be packed").bytes).expect("a tree").nodes;
     let t = times(script);
     let times = [t.yogi_lower, t.yogi, t.size, t.lower, t.finish, t.whole, t.plain_size, t.plain_lower, t.plain_finish].map(shown);
     let ratios = [t.yogi / t.finish, t.size / t.plain_size, t.lower / t.plain_lower, t.finish / t.plain_finish];
     let ratios = ratios.map(|ratio| if ratio < 10.0 { format!("{ratio:.2}") } else { format!("{ratio:.0}") });
     println!("| {what} | {} | {nodes} | {} | {} |", script.lines.len(), times.join(" | "), ratios.join(" | "));
+    t
+}
+
+/// The largest of the ratios, and whose it is.
+fn print_worst(what: &str, ratios: &[(f64, String)]) {
+    let (ratio, whose) = ratios.iter().max_by(|a, b| a.0.total_cmp(&b.0)).expect("a row");
+    println!("{what}: at most {ratio:.2}, {whose}");
 }
 
 pub fn table() {
@@ -132,11 +140,15 @@ pub fn table() {
     println!("|{}", "---|".repeat(16));
     row("`x=1`", &smallest());
     row("Ites and assignments", &Shape::Both.script(20, 360));
+    let (mut growth, mut beside_plain) = (vec![], vec![]);
     for shape in Shape::ALL {
         for lines in [1, 20, 255] {
-            for nodes in [100, 500, 2_040] {
-                row(shape.name(), &shape.script(lines, nodes));
-            }
+            let rows = [100, 500, 2_040].map(|nodes| (nodes, row(shape.name(), &shape.script(lines, nodes))));
+            growth.push((rows[2].1.finish / rows[1].1.finish, format!("{}, {lines} lines", shape.name())));
+            beside_plain.extend(rows.map(|(nodes, t)| (t.finish / t.plain_finish, format!("{}, {lines} lines, {nodes} nodes", shape.name()))));
         }
     }
+    println!();
+    print_worst("finish of 2040 nodes / of 500", &growth);
+    print_worst("finish / plain, from 100 nodes on", &beside_plain);
 }

@@ -56,6 +56,33 @@ pub fn many(nodes: usize) -> Script {
     Script { lines }
 }
 
+/// So many times the statement, on all of 255 lines.
+pub fn spread(count: usize, stmt: &Statement) -> Script {
+    let line = |i: usize| Line { stmts: vec![stmt.clone(); count * (i + 1) / 255 - count * i / 255] };
+    Script { lines: (0..255).map(line).collect() }
+}
+
+/// So many quotients, each with an increment at its ends: what takes most instructions a node.
+fn quotients(count: usize) -> Expr {
+    match count {
+        0 => Expr::Incdec(Incdec { inc: true, ident: Ident::local("x") }),
+        _ => binop(quotients((count - 1) / 2), Binop::Div, quotients(count / 2)),
+    }
+}
+
+/// Trees of 2,048 nodes with the most of something: the longest estimate (increments), the most sections (empty Ites), the most instructions in few sections
+/// (one statement of quotients), many of both (Ites by a quotient).
+pub fn largest() -> [Script; 4] {
+    let ite = |condition| Statement::Ite(condition, vec![], vec![]);
+    let divided = Statement::Assign(Ident::local("x"), Some(AssignOp::Div), quotients(1_023));
+    [spread(2_048, &inc()), spread(1_024, &ite(local("x"))), one_line(vec![divided]), spread(512, &ite(quotients(1)))]
+}
+
+/// A section word that goes on to a section.
+pub fn section(start: u64, target: u64, first: u64, count: u64) -> u64 {
+    start << 63 | target << 46 | first << 30 | count << 14
+}
+
 /// Ites in each other and beside each other, gotos and strings: at most so many nodes, in the first lines.
 pub fn mixed(lines: usize, nodes: usize) -> Script {
     let text = || Expr::String("abc".into());
