@@ -8,7 +8,7 @@ use Rattle.std.proofs.lemmas.Bool.{eqb-false}
 use Rattle.std.proofs.lemmas.Grind.{get_or-set_at}
 use Rattle.std.proofs.lemmas.List.{get_or-set_other, length-set, get_or-replicate, length-replicate, get_or_past}
 use Rattle.rules.specs.Bits.{isOne}
-use Rattle.rules.specs.Combine.{hit, refsNext, refs}
+use Rattle.rules.specs.Combine.{hit, refsNext, refs, next}
 use Rattle.rules.specs.Instr.{getSection}
 use Rattle.rules.specs.Machine.{SectionOrLine, unfixed, section, line, SectionCode, absent}
 use Rattle.rules.specs.Operations.{allAhead}
@@ -18,7 +18,7 @@ use Rattle.joins.specs.Joins.{refs-other}
 use Rattle.joins.specs.Numbers.{lt-or-le}
 use Rattle.joins.specs.Pairs.{Pair, of-pair, to-pair}
 use Rattle.joins.specs.References.{hit-self}
-use Rattle.gather.specs.Gather.{next, head, linked}
+use Rattle.gather.specs.Gather.{head, linked}
 use Rattle.gather.proofs.Contract.{linked-of, linked-is}
 use Rattle.gather.proofs.Follow.{ringless-head}
 use Rattle.gather.proofs.Numbers.{same-test}

@@ -4,12 +4,12 @@ use Rattle.std.specs.Prelude.{◌≡◌, refl, ◌⊎◌, Bool, true, false, con
 use Rattle.std.proofs.Common.{sym, ap, ap₂, ◌∙◌, inl, inr, arith}
 use Rattle.std.proofs.Math.Option.{Option, none, some, none-ne-some}
 use Rattle.std.proofs.lemmas.Bool.{false_from_ne_true}
-use Rattle.rules.specs.Combine.{pair}
+use Rattle.rules.specs.Combine.{next, pair}
 use Rattle.rules.specs.Machine.{SectionCode, absent}
 use Rattle.joins.specs.Ahead.{Forward, pair-up}
 use Rattle.joins.specs.Pairs.{Pair, to-pair, of-pair, Low, none-low}
 use Rattle.gather.proofs.Contract.{chain-none}
-use Rattle.gather.specs.Gather.{next, lowest, link, linked, pick, head, newNumber, whole, gather, chainOf}
+use Rattle.gather.specs.Gather.{lowest, Ringless, link, linked, pick, head, newNumber, whole, gather, chainOf}
 use Rattle.gather.proofs.Join.{next-in, next-only}
 use Rattle.gather.proofs.Numbers.{ren-self}
 use Rattle.gather.proofs.Rings.{Way, to-round, one, more}
@@ -89,5 +89,5 @@ module _ (m : List SectionCode) (h : Forward m) where
   way-up t u w (more {v = v} e k r) = let a = (pair-up m h u v (to-pair m u v e)).0 in let b = way-up t v w r in omega arith
 
   -- so there is no ring
-  pub forward-ringless : (t : ℕ) → lowest m t ≡ false
+  pub forward-ringless : Ringless m
   forward-ringless t = false_from_ne_true (lowest m t) (λ e. let z = way-up t t t (to-round m t e) in omega arith)

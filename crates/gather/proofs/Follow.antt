@@ -3,12 +3,12 @@
 use Rattle.std.specs.Prelude.{◌≡◌, refl, Bool, true, false, cond, not, List, ℕ, zero, suc, length, get_or}
 use Rattle.std.proofs.Common.{sym, ap, ◌∙◌}
 use Rattle.std.proofs.Math.Option.{Option, none, some}
-use Rattle.rules.specs.Combine.{mate, joined}
+use Rattle.rules.specs.Combine.{mate, next, joined}
 use Rattle.rules.specs.Machine.{SectionOrLine, SectionCode, absent, unfixed, section, line}
 use Rattle.laws.specs.Lists.{not-both}
 use Rattle.joins.specs.Pairs.{to-pair}
 use Rattle.gather.proofs.Contract.{chain-none, chain-some, chain-more, linked-of, linked-is}
-use Rattle.gather.specs.Gather.{next, lowest, cut, link, linked, head, chainOf, takes}
+use Rattle.gather.specs.Gather.{Ringless, cut, link, linked, head, chainOf, takes}
 use Rattle.gather.proofs.Join.{next-in, next-alone}
 use Rattle.gather.proofs.Rings.{link-is, link-ends}
 
@@ -49,7 +49,7 @@ module _ (m : List SectionCode) where
 
   -- ---- no ring
 
-  module _ (h : (t : ℕ) → lowest m t ≡ false) where
+  module _ (h : Ringless m) where
     -- then each section takes in the one that it may
     pub ringless-link : (u : ℕ) → link m u ≡ next m u
     ringless-link u = go (next m u)

@@ -5,13 +5,12 @@ use Rattle.std.proofs.Math.Option.{none, some, map as mapped}
 use Rattle.std.proofs.Math.Seq.{get_or-set_same, get_or-set_other}
 use Rattle.std.proofs.lemmas.Bool.{cases_eq}
 use Rattle.rules.specs.Clean.{ren}
-use Rattle.rules.specs.Combine.{refsNext, mayTake, mate, joined, combineAt}
+use Rattle.rules.specs.Combine.{refsNext, mayTake, mate, next, joined, combineAt}
 use Rattle.rules.specs.Instr.{fall}
 use Rattle.rules.specs.Machine.{SectionOrLine, SectionCode, absent, unfixed, section, line}
 use Rattle.joins.specs.Joins.{first-in, refs-other, Joint, at-join, mate-join}
 use Rattle.joins.specs.Pairs.{Pair, to-pair}
 use Rattle.joins.specs.References.{hit-self}
-use Rattle.gather.specs.Gather.{next}
 
 module _ (m : List SectionCode) where
   -- a section that may take one in is there

@@ -4,14 +4,14 @@ use Rattle.std.specs.Prelude.{◌≡◌, refl, ◌⊎◌, Bool, true, false, con
 use Rattle.std.proofs.Common.{sym, ap, subst, ◌∙◌, inl, inr, arith, eq-eqb, ne_eqb}
 use Rattle.std.proofs.Math.Option.{Option, none, some, none-ne-some, map as mapped}
 use Rattle.std.proofs.lemmas.Bool.{cases_eq}
-use Rattle.rules.specs.Combine.{combineAt}
+use Rattle.rules.specs.Combine.{next, combineAt}
 use Rattle.rules.specs.Instr.{fall}
 use Rattle.rules.specs.Machine.{SectionCode, absent}
 use Rattle.joins.specs.Joins.{second-in, length-join}
 use Rattle.joins.specs.Numbers.{lt-or-le, fall-same}
 use Rattle.joins.specs.Pairs.{to-pair}
 use Rattle.gather.proofs.Contract.{was, Ends, all, Contracts, contracted}
-use Rattle.gather.specs.Gather.{next, lowest, cut, link, gather}
+use Rattle.gather.specs.Gather.{lowest, cut, link, gather}
 use Rattle.gather.proofs.Join.{next-in, next-only, at-other, at-first, next-stays, next-joint, next-round}
 use Rattle.gather.proofs.Numbers.{fall-lt, same-test}
 use Rattle.gather.proofs.Rings.{Way, way-then, way-lower, of-round, to-round, no-round, link-is, of-link, link-ends, one, more}
@@ -136,7 +136,7 @@ module _ (m : List SectionCode) (i j : ℕ) (e : next m i ≡ some j) where
   -- ---- the lowest of a ring stays
 
   module _ (low : lowest m j ≡ false) where
-    lowest-stays : (v : ℕ) → (v ≡ j → ⊥) → (next m j ≡ some i → v ≡ i → ⊥) → lowest (combineAt m i j) (fall j v) ≡ lowest m v
+    pub lowest-stays : (v : ℕ) → (v ≡ j → ⊥) → (next m j ≡ some i → v ≡ i → ⊥) → lowest (combineAt m i j) (fall j v) ≡ lowest m v
     lowest-stays v p h = same-test (lowest (combineAt m i j) (fall j v)) (lowest m v) back there
       where
         there : lowest m v ≡ true → lowest (combineAt m i j) (fall j v) ≡ true

@@ -3,11 +3,12 @@ use Rattle.std.specs.Prelude.{◌≡◌, refl, ◌⊎◌, Bool, true, false, con
 use Rattle.std.proofs.Common.{sym, ap, subst, ◌∙◌, inl, inr, not-suc-le-zero, arith, eqb-true, eq-eqb, ne_eqb, ltb-true, lt-ltb}
 use Rattle.std.proofs.Math.Option.{Option, none, some, none-ne-some}
 use Rattle.std.proofs.lemmas.Bool.{cases_eq}
+use Rattle.rules.specs.Combine.{next}
 use Rattle.rules.specs.Machine.{SectionCode}
 use Rattle.laws.specs.Lists.{not-both}
 use Rattle.joins.specs.Numbers.{lt-or-le}
 use Rattle.gather.proofs.Contract.{Ends}
-use Rattle.gather.specs.Gather.{next, returns, lowest, cut, link}
+use Rattle.gather.specs.Gather.{returns, lowest, cut, link}
 use Rattle.gather.proofs.Join.{next-in, next-only}
 use Rattle.gather.proofs.Steps.{onward, steps, front, front-none, last, after, to-ends, Round, ended-or, again}
 

@@ -1,6 +1,6 @@
 -- Combining gathers: each of its joins keeps what is gathered (join-gather, in JoinLinks), and a machine without a pair is gathered already.
 -- Assumes nothing of the sections: they may be ones that combining refuses.
-use Rattle.std.specs.Prelude.{◌≡◌, refl, true, false, List, [], ◌∷◌, ℕ, zero, suc, ◌≤◌, length}
+use Rattle.std.specs.Prelude.{◌≡◌, refl, true, List, [], ◌∷◌, ℕ, zero, suc, ◌≤◌, length}
 use Rattle.std.proofs.Common.{sym, ap, ◌∙◌, not-suc-le-zero, arith}
 use Rattle.std.proofs.Math.Option.{Option, none, some}
 use Rattle.rules.specs.Combine.{pair, combineAt, combineFuel, combineSections}
@@ -10,7 +10,7 @@ use Rattle.joins.specs.Ahead.{forward}
 use Rattle.joins.specs.Joins.{length-join}
 use Rattle.joins.specs.Pairs.{of-pair, pair-found, found-low}
 use Rattle.gather.proofs.Ends.{pair-none, lowest-not, gather-self, forward-ringless}
-use Rattle.gather.specs.Gather.{lowest, cut, gather}
+use Rattle.gather.specs.Gather.{cut, Ringless, gather}
 use Rattle.gather.proofs.JoinLinks.{join-gather}
 
 -- Where no pair is left, a machine is gathered.
@@ -37,5 +37,5 @@ unfolding combineSections
 combine-gather m = fuel-gather (length m) m (omega arith)
 
 -- A machine that 15 does not refuse has no ring.
-pub ahead-ringless : (m : List SectionCode) → allAhead m 0 m ≡ true → (t : ℕ) → lowest m t ≡ false
+pub ahead-ringless : (m : List SectionCode) → allAhead m 0 m ≡ true → Ringless m
 ahead-ringless m e = forward-ringless m (forward m e)

@@ -1,16 +1,12 @@
 -- Combining in one pass, `gather`: a section that none takes in, a head, takes in its whole chain of successors. Targets that are left are heads, and each
 -- becomes the number of heads below it. Definitions only; that this is what combining gives is shown in proofs/Theorems, of every list of sections.
-use Rattle.std.specs.Prelude.{Bool, false, cond, not, ◌&&◌, ◌||◌, List, [], ◌∷◌, ℕ, zero, suc, ltb, eqb, length, get_or}
+use Rattle.std.specs.Prelude.{◌≡◌, Bool, false, cond, not, ◌&&◌, ◌||◌, List, [], ◌∷◌, ℕ, zero, suc, ltb, eqb, length, get_or}
 use Rattle.std.proofs.Math.Option.{Option, none, some}
 use Rattle.rules.specs.Clean.{ren}
-use Rattle.rules.specs.Combine.{mate, joined}
+use Rattle.rules.specs.Combine.{next, joined}
 use Rattle.rules.specs.Machine.{SectionOrLine, SectionCode, absent, unfixed, section, line}
 
 -- ---- links: to each section the one that it takes in, if any
-
--- the section that section u may take in
-abbrev pub next : List SectionCode → ℕ → Option ℕ
-next m u = mate m u (get_or m u absent).success
 
 -- does `next` lead from u back to t, in at most k steps and on the way only through sections above t?
 abbrev pub returns : List SectionCode → ℕ → ℕ → ℕ → Bool
@@ -20,6 +16,10 @@ returns m t (suc k) u = elim (next m u) [ none ↦ false | some v ↦ eqb v t ||
 -- is t the lowest section of a ring, that is of sections each of which may take the next one in, round to the first?
 abbrev pub lowest : List SectionCode → ℕ → Bool
 lowest m t = returns m t (length m) t
+
+-- is there no ring?
+abbrev pub Ringless : List SectionCode → Type 0
+Ringless m = (t : ℕ) → lowest m t ≡ false
 
 -- none in place of the lowest section of a ring: with it its ring begins, so there the ring is cut
 abbrev pub cut : List SectionCode → Option ℕ → Option ℕ

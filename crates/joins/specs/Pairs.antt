@@ -6,7 +6,7 @@ use Rattle.std.proofs.Math.Option.{Option, none, some, none-ne-some}
 use Rattle.std.proofs.lemmas.Bool.{eqb-false}
 use Rattle.std.proofs.Math.ListN.{get_or-eq_default}
 use Rattle.rules.specs.Machine.{SectionOrLine, unfixed, section, line, SectionCode, absent}
-use Rattle.rules.specs.Combine.{refs, mayTake, mate, pairFrom, pair, combineFuel}
+use Rattle.rules.specs.Combine.{refs, mayTake, mate, next, pairFrom, pair, combineFuel}
 use Rattle.laws.specs.Lists.{both}
 use Rattle.joins.specs.Numbers.{lt-or-le}
 
@@ -40,18 +40,18 @@ pair-of m i j e h =
       once = eqb-true (refs j m) 1 q.1;
     }
 
-pub to-pair : (m : List SectionCode) (i j : ℕ) → mate m i (get_or m i absent).success ≡ some j → Pair m i j
+pub to-pair : (m : List SectionCode) (i j : ℕ) → next m i ≡ some j → Pair m i j
 to-pair m i j e = let t = mate-is m i j (get_or m i absent).success e in pair-of m i j t.0 t.1
 
 -- and so does each pair
-pub of-pair : (m : List SectionCode) (i j : ℕ) → Pair m i j → mate m i (get_or m i absent).success ≡ some j
+pub of-pair : (m : List SectionCode) (i j : ℕ) → Pair m i j → next m i ≡ some j
 of-pair m i j p = rw (p.succ, ne_eqb i j p.apart, p.inner, p.once)
 
 -- ---- the search
 
 -- no section below i may take its successor in
 abbrev pub Low : List SectionCode → ℕ → Type 0
-Low m i = (t : ℕ) → t < i → mate m t (get_or m t absent).success ≡ none
+Low m i = (t : ℕ) → t < i → next m t ≡ none
 
 module _ (m : List SectionCode) where
   at-zero : (t : ℕ) → 0 + t ≡ t
@@ -105,7 +105,7 @@ module _ (m : List SectionCode) where
   pub found-low : (p : ℕ × ℕ) → pair m ≡ some p → Low m p.0
   found-low p e t h = go (lt-or-le t (length m))
     where
-      go : (t < length m) ⊎ (length m ≤ t) → mate m t (get_or m t absent).success ≡ none
+      go : (t < length m) ⊎ (length m ≤ t) → next m t ≡ none
       go (inl l) = let z : 0 + t ≡ t = omega arith in rw z at (low-from 0 m p e t l (omega arith))
       go (inr l) = rw (get_or-eq_default m absent l) refl
 

@@ -43,6 +43,10 @@ mate m i unfixed = none
 mate m i (section j) = cond (mayTake m i j) (some j) none
 mate m i (line r) = none
 
+-- the section that section i may take in, its own successor
+abbrev pub next : List SectionCode → ℕ → Option ℕ
+next m i = mate m i (get_or m i absent).success
+
 -- the lowest pair among the sections ss, which are m's from number i on
 abbrev pub pairFrom : List SectionCode → List SectionCode → ℕ → Option (ℕ × ℕ)
 pairFrom m [] i = none

@@ -31,6 +31,8 @@ pub mod Walk
 pub mod ReadScript
 pub mod Reading
 pub mod Preservation
+-- joining in any order
+pub mod JoinOrder
 -- what finlist prints
 pub mod Listing
 -- what was tried, computed
@@ -38,3 +40,4 @@ pub mod Examples
 pub mod OperationExamples
 pub mod WalkExamples
 pub mod PreservationExamples
+pub mod JoinOrderExamples
