@@ -9,6 +9,9 @@ pub mod limits;
 pub mod line;
 pub mod lowering;
 pub mod machine;
+#[cfg(test)]
+mod order_tests;
+pub mod orders;
 pub mod origin;
 pub mod record;
 pub mod rng;

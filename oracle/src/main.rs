@@ -2,7 +2,7 @@
 //! README.md says what each command does.
 
 use oracle::judge::{Answer, Op, Options, Stage};
-use oracle::{bits, finlist, generate, line, machine, record, selftest, theorems, tree, walks, judge};
+use oracle::{bits, finlist, generate, judge, line, machine, orders, record, selftest, theorems, tree, walks};
 use std::io::{Read, Write};
 use std::process::ExitCode;
 
@@ -13,7 +13,8 @@ const USAGE: &str = "usage:
   oracle generate trees|damaged|machines|chains SEED COUNT [MAXBYTES]
   oracle self-test SEED COUNT
   oracle walks SEED COUNT
-  oracle theorems trees|damaged|machines|finlist|texts|limits|instr|walks SEED COUNT DIR
+  oracle orders SEED COUNT
+  oracle theorems trees|damaged|machines|finlist|texts|limits|instr|walks|orders SEED COUNT DIR
   oracle record trees|machines|texts|chains SEED";
 
 fn machine_line(machine: &machine::Machine) -> String {
@@ -111,6 +112,7 @@ fn run(words: &[&str]) -> Option<String> {
         ["record", "texts", seed] => Some(record::of_texts(seed.parse().ok()?)),
         ["theorems", kind, seed, count, folder] => theorems_command(kind, seed, count, folder),
         ["self-test", seed, count] => report_command(selftest::run, seed, count),
+        ["orders", seed, count] => report_command(orders::run, seed, count),
         ["walks", seed, count] => report_command(walks::run, seed, count),
         _ => None,
     }

@@ -132,6 +132,7 @@ pub record Built (f : Tree → Machine) (s : List ℕ) (l : Tables) (u : Counts)
   pub parsed : parse s ≡ ok tree
   pub counts : u ≡ countsOf (f tree)
   pub machine : decode (build f s l).1 u ≡ ok (f tree)
+  pub left : build f s l ≡ (ok (countsOf (f tree)), write (estimate (sizeOf tree)) (f tree) l)
 
 abbrev usedOf : Counts → Res Counts → Counts
 usedOf d (refused n) = d
@@ -150,7 +151,7 @@ built f fit s l u e = outer (parse s) refl e refl
     answer : Res Tree → Ans
     answer r = elim r [ refused n ↦ (refused n, l) | ok x ↦ made x (holds l (estimate (sizeOf x))) ]
 
-    inner : (x : Tree) → parse s ≡ ok x → (b : Bool) → (made x b).0 ≡ ok u → (build f s l).1 ≡ (made x b).1 → Built f s l u
+    inner : (x : Tree) → parse s ≡ ok x → (b : Bool) → (made x b).0 ≡ ok u → build f s l ≡ made x b → Built f s l u
     inner x p false q r = absurd (refused≢ok Refusal.noRoom u q)
     inner x p true q r =
         let m = f x in
@@ -159,9 +160,10 @@ built f fit s l u e = outer (parse s) refl e refl
           tree = x;
           parsed = p;
           counts = sym c;
-          machine = ap (λ (k : Tables). decode k u) r ∙ (ap (decode (write (estimate (sizeOf x)) m l)) (sym c) ∙ tables-back m (fit s x p) (write (estimate (sizeOf x)) m l) (written (estimate (sizeOf x)) m l));
+          machine = ap (λ (k : Ans). decode k.1 u) r ∙ (ap (decode (write (estimate (sizeOf x)) m l)) (sym c) ∙ tables-back m (fit s x p) (write (estimate (sizeOf x)) m l) (written (estimate (sizeOf x)) m l));
+          left = r;
         }
 
-    outer : (r : Res Tree) → parse s ≡ r → (answer r).0 ≡ ok u → (build f s l).1 ≡ (answer r).1 → Built f s l u
+    outer : (r : Res Tree) → parse s ≡ r → (answer r).0 ≡ ok u → build f s l ≡ answer r → Built f s l u
     outer (refused n) p q w = absurd (refused≢ok n u q)
     outer (ok x) p q w = inner x p (holds l (estimate (sizeOf x))) q w

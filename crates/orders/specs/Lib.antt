@@ -1,0 +1,2 @@
+-- what is claimed of the calls finish and combine
+pub mod Calls

@@ -72,14 +72,26 @@ module _ (t : Script) (pos : 0 < length t) where
     tree-to-clean : Within (readScript t os) (walkSections (cleanSections (sectionsOf t)) (length t) os)
     tree-to-clean = within-trans (readScript t os) (walkSections (sectionsOf t) (length t) os) (walkSections (cleanSections (sectionsOf t)) (length t) os) tree-to-low (λ k. (k, inl (clean-is k)))
 
+    -- Whatever is kept of the cleaned sections by joining is walked as the script is read,
+    module _ (m : List SectionCode) (k : Kept (length t) (cleanSections (sectionsOf t)) m) where
+      joined-to-tree : Within (walkSections m (length t) os) (readScript t os)
+      joined-to-tree = within-trans (walkSections m (length t) os) (walkSections (cleanSections (sectionsOf t)) (length t) os) (readScript t os) (k.back os) clean-to-tree
+
+      tree-to-joined : Within (readScript t os) (walkSections m (length t) os)
+      tree-to-joined = within-trans (readScript t os) (walkSections (cleanSections (sectionsOf t)) (length t) os) (walkSections m (length t) os) tree-to-clean (k.there os)
+
+      joined-alike : Alike (walkSections m (length t) os) (readScript t os)
+      joined-alike = same-walk (walkSections m (length t) os) (readScript t os) joined-to-tree tree-to-joined
+
+      pub joined-same : SameWalk (walkSections m (length t) os) (readScript t os)
+      joined-same = record { firsts = agree t pos os (walkSections m (length t) os) joined-alike; stops = joined-alike.stops }
+
+    -- and so are the finished ones.
     fin-to-tree : Within (walkSections (finish t) (length t) os) (readScript t os)
-    fin-to-tree = within-trans (walkSections (finish t) (length t) os) (walkSections (cleanSections (sectionsOf t)) (length t) os) (readScript t os) (kept.back os) clean-to-tree
+    fin-to-tree = joined-to-tree (finish t) kept
 
     tree-to-fin : Within (readScript t os) (walkSections (finish t) (length t) os)
-    tree-to-fin = within-trans (readScript t os) (walkSections (cleanSections (sectionsOf t)) (length t) os) (walkSections (finish t) (length t) os) tree-to-clean (kept.there os)
-
-    same : Alike (walkSections (finish t) (length t) os) (readScript t os)
-    same = same-walk (walkSections (finish t) (length t) os) (readScript t os) fin-to-tree tree-to-fin
+    tree-to-fin = tree-to-joined (finish t) kept
 
     fin-safe : Safe (walkSections (finish t) (length t) os)
     fin-safe = within-safe (walkSections (finish t) (length t) os) (readScript t os) fin-to-tree (tree-safe t os)
@@ -96,7 +108,7 @@ module _ (t : Script) (pos : 0 < length t) where
   pub preservation : (os : List ℕ) → PreservesScript (length t) t (finish t) os
   preservation os =
       record {
-        same = record { firsts = agree t pos os (walkSections (finish t) (length t) os) (same os); stops = (same os).stops };
+        same = joined-same os (finish t) kept;
         found = fin-safe os;
         sections = safe-enters (finish t) (length t) os (fin-safe os);
         entered = λ P G good k. everywhere (λ u. SectGood P G (get_or (finish t) u absent)) (λ u. getD-good P G (finish t) (finish-good P G t good) u) (enters (finish t) (length t) k (0, os));

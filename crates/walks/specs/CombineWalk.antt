@@ -192,7 +192,7 @@ module _ (L : ℕ) (pos : 0 < L) where
         back = λ os. covers-within (walkSections n L os) (walkSections m L os) (c os);
       }
 
-  kept-trans : (l m n : List SectionCode) → Kept L l m → Kept L m n → Kept L l n
+  pub kept-trans : (l m n : List SectionCode) → Kept L l m → Kept L m n → Kept L l n
   kept-trans l m n p q =
       record {
         ready = q.ready;
@@ -200,7 +200,7 @@ module _ (L : ℕ) (pos : 0 < L) where
         back = λ os. within-trans (walkSections n L os) (walkSections m L os) (walkSections l L os) (q.back os) (p.back os);
       }
 
-  kept-self : (m : List SectionCode) → Ready L m → Kept L m m
+  pub kept-self : (m : List SectionCode) → Ready L m → Kept L m m
   kept-self m r = record { ready = r; there = λ os k. (k, inl refl); back = λ os k. (k, inl refl) }
 
   kept-fuel : (k : ℕ) (m : List SectionCode) → Ready L m → Kept L m (combineFuel k m)

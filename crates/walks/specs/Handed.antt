@@ -22,6 +22,7 @@ use Rattle.walks.specs.CombineWalk.{combine-keeps}
 pub record Combines (t : Tables) (u v : Counts) : Type 0 where
   pub machine : Machine
   pub decoded : decode t u ≡ ok machine
+  pub accepted : combineIn t machine ≡ ok (combined machine)
   pub counts : v ≡ countsOf (combined machine)
   pub words : (combine t u).1 ≡ write u (combined machine) t
   pub same : (os : List ℕ) → Alike (walk (combined machine) os) (walk machine os)
@@ -59,10 +60,10 @@ some-line : (t : Tables) (u : Counts) → countsFit t u ≡ true → 0 < u.lines
 unfolding countsFit
 some-line t u e = ltb-true 0 u.lines (first _ _ (first _ _ (first _ _ (first _ _ (first _ _ (first _ _ (first _ _ (first _ _ (first _ _ e)))))))))
 
-fixed : (m : List SectionCode) → allb fixedHere m ≡ true → Fixed m
+all-fixed : (m : List SectionCode) → allb fixedHere m ≡ true → Fixed m
 unfolding allb fixedHere
-fixed [] e = tt
-fixed (s ∷ m) e = go (fixedHere s) refl e (fixed m)
+all-fixed [] e = tt
+all-fixed (s ∷ m) e = go (fixedHere s) refl e (all-fixed m)
   where
     go : (b : Bool) → fixedHere s ≡ b → elim b [ false ↦ false | true ↦ allb fixedHere m ] ≡ true → (allb fixedHere m ≡ true → Fixed m) → Fixed (s ∷ m)
     go false p q ih = absurd (not-both false q refl)
@@ -102,17 +103,23 @@ begins t u = go (fits t u) refl
 
 -- ---- the call
 
-combine-fixed : (t : Tables) (m r : Machine) → combineIn t m ≡ ok r → (Fixed m.sections) × (combined m ≡ r)
-unfolding combineIn
-combine-fixed t m r e = first (allb fixedHere m.sections) refl e
-  where
-    then : (b : Bool) → elim b [ false ↦ refused Refusal.linksBack | true ↦ ok (combined m) ] ≡ ok r → combined m ≡ r
-    then false q = absurd (refused≢ok Refusal.linksBack r q)
-    then true q = cc
+-- what 14 and 15 let through, and what is made of it
+pub record Accepts (m r : Machine) : Type 0 where
+  pub fixed : Fixed m.sections
+  pub ahead : allAhead m.sections 0 m.sections ≡ true
+  pub gives : combined m ≡ r
 
-    first : (b : Bool) → allb fixedHere m.sections ≡ b → elim b [ false ↦ refused Refusal.isUnfixed | true ↦ elim (allAhead m.sections 0 m.sections) [ false ↦ refused Refusal.linksBack | true ↦ ok (combined m) ] ] ≡ ok r → (Fixed m.sections) × (combined m ≡ r)
+pub combine-accepts : (t : Tables) (m r : Machine) → combineIn t m ≡ ok r → Accepts m r
+unfolding combineIn
+combine-accepts t m r e = first (allb fixedHere m.sections) refl e
+  where
+    then : Fixed m.sections → (b : Bool) → allAhead m.sections 0 m.sections ≡ b → elim b [ false ↦ refused Refusal.linksBack | true ↦ ok (combined m) ] ≡ ok r → Accepts m r
+    then f false p q = absurd (refused≢ok Refusal.linksBack r q)
+    then f true p q = record { fixed = f; ahead = p; gives = cc }
+
+    first : (b : Bool) → allb fixedHere m.sections ≡ b → elim b [ false ↦ refused Refusal.isUnfixed | true ↦ elim (allAhead m.sections 0 m.sections) [ false ↦ refused Refusal.linksBack | true ↦ ok (combined m) ] ] ≡ ok r → Accepts m r
     first false p q = absurd (refused≢ok Refusal.isUnfixed r q)
-    first true p q = (fixed m.sections p, then (allAhead m.sections 0 m.sections) q)
+    first true p q = then (all-fixed m.sections p) (allAhead m.sections 0 m.sections) refl q
 
 module _ (t : Tables) (u : Counts) where
   no-machine : (n : ℕ) → decode t u ≡ refused n → (combine t u).0 ≡ refused n
@@ -134,13 +141,14 @@ combines t u v e = from (decode t u) refl (begins t u)
   where
     kept : (m r : Machine) → decode t u ≡ ok m → Begins (ok m) → combineIn t m ≡ ok r → Combines t u v
     kept m r p b q =
-        let f = combine-fixed t m r q in
-        let w : combine t u ≡ (ok (countsOf (combined m)), write u (combined m) t) = rw f.1 (written t u m r p q) in
-        let ready : Ready m.lines m.sections = record { fixed = f.0; starts = b.1 } in
+        let f = combine-accepts t m r q in
+        let w : combine t u ≡ (ok (countsOf (combined m)), write u (combined m) t) = rw f.gives (written t u m r p q) in
+        let ready : Ready m.lines m.sections = record { fixed = f.fixed; starts = b.1 } in
         let k = combine-keeps m.lines b.0 m.sections ready in
         record {
           machine = m;
           decoded = p;
+          accepted = q ∙ ap ok (sym f.gives);
           counts = let a : ok v ≡ ok (countsOf (combined m)) = sym e ∙ ap (λ (x : Res Counts × Tables). x.0) w in cc;
           words = ap (λ (x : Res Counts × Tables). x.1) w;
           same = λ os. same-walk (walkSections (combineSections m.sections) m.lines os) (walkSections m.sections m.lines os) (k.back os) (k.there os);
