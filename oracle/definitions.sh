@@ -1,15 +1,15 @@
 #!/usr/bin/env bash
 # Holds the definitions of crates/rules to yogi: theorems proved by computing, in a scratch repository.
-# Usage: oracle/definitions.sh [SEED [TREES [DAMAGED [MACHINES [FINLIST [TEXTS [LIMITS [INSTR [WALKS]]]]]]]]]
+# Usage: oracle/definitions.sh [SEED [TREES [DAMAGED [MACHINES [FINLIST [TEXTS [LIMITS [INSTR [WALKS [ORDERS]]]]]]]]]]
 # LIMITS: 0 leaves out the four theorems about the longest files, which take a quarter of the time.
-# INSTR: choices of fields for each opcode. WALKS: pairs of a tree and a list of outcomes.
+# INSTR: choices of fields for each opcode. WALKS: pairs of a tree and a list of outcomes. ORDERS: machines joined in some order.
 # RULES: another folder with the definitions.
 set -euo pipefail
 here=$(cd "$(dirname "$0")" && pwd)
 rules=${RULES:-$here/../crates/rules}
 seed=${1:-1}
 counts=("trees ${2:-300}" "damaged ${3:-300}" "machines ${4:-400}"
-    "finlist ${5:-150}" "texts ${6:-50}" "limits ${7:-4}" "instr ${8:-6}" "walks ${9:-200}")
+    "finlist ${5:-150}" "texts ${6:-50}" "limits ${7:-4}" "instr ${8:-6}" "walks ${9:-200}" "orders ${10:-200}")
 
 (cd "$here" && cargo build --release --quiet)
 oracle=$here/target/release/oracle

@@ -2,7 +2,7 @@
 -- orders end differently, a ring.
 use Rattle.std.specs.Prelude.{◌≡◌, refl, true, false, List, [], ◌∷◌, map, ℕ, length, get_or, replicate}
 use Rattle.std.proofs.Common.{sym, ap, ◌∙◌, arith}
-use Rattle.std.proofs.Math.Option.{Option, none, some}
+use Rattle.std.proofs.Math.Option.{Option, none, some, none-ne-some}
 use Rattle.rules.specs.Bits.{Res, refused, ok}
 use Rattle.rules.specs.Parse.{parse}
 use Rattle.rules.specs.Opcode as Op
@@ -13,8 +13,8 @@ use Rattle.rules.specs.Assemble.{inner}
 use Rattle.rules.specs.Clean.{cleaned}
 use Rattle.rules.specs.Combine.{pair, combineAt, combined}
 use Rattle.rules.specs.Lowered.{defaults, lowered, finished}
-use Rattle.rules.specs.JoinOrder.{allowed, joinPairs, AnyOrder}
-use Rattle.rules.specs.Examples.{bytes, head, oneLine}
+use Rattle.rules.specs.JoinOrder.{allowed, joinPairs, EndsIn, AnyOrder}
+use Rattle.rules.specs.Examples.{bytes, head}
 
 -- ---- files
 
@@ -74,67 +74,75 @@ several =
     head [] (section 1) ∷ head (ins₁ Op.JumpIfError 3 ∷ []) (section 2) ∷ inner [] (section 3) ∷ inner [] (section 4) ∷ inner [] (section 6)
     ∷ inner [] (section 5) ∷ inner [] (line 0) ∷ inner [] (section 6) ∷ inner [] unfixed ∷ []
 
--- S2 is a line start; is jumped to; is the successor of another, too; is S1; is not S1's successor; no successor; no section
-pub not-allowed : map (allowed several) ((0, 1) ∷ (2, 3) ∷ (4, 6) ∷ (5, 5) ∷ (1, 4) ∷ (6, 0) ∷ (8, 0) ∷ (9, 0) ∷ []) ≡ replicate 8 false
-unfolding several
-not-allowed = refl
-
 pub are-allowed : map (allowed several) ((1, 2) ∷ (3, 4) ∷ []) ≡ replicate 2 true
 unfolding several
 are-allowed = refl
 
--- a chain of three: with (0, 1) joined, what was 2 is 1, so that (1, 2) is not allowed at its time; one join is not the end
-unfoldable pub chain : Machine
-unfolding oneLine head
-chain = oneLine 0 (head (ins₁ Op.IncVal 0 ∷ []) (section 1) ∷ inner (ins₁ Op.DecVal 0 ∷ []) (section 2) ∷ inner [] (section 0) ∷ []) [] 1
+-- S2 is a line start, is jumped to, is another's successor too, is S1, is not S1's successor; S1 goes on to a line, is unfixed, is absent
+pub not-allowed : map (allowed several) ((0, 1) ∷ (2, 3) ∷ (4, 6) ∷ (5, 5) ∷ (1, 4) ∷ (6, 0) ∷ (8, 0) ∷ (9, 0) ∷ []) ≡ replicate 8 false
+unfolding several
+not-allowed = refl
 
-unfoldable pub chainJoined : List SectionCode → Machine
-unfolding oneLine
-chainJoined ss = oneLine 0 ss [] 1
+-- ---- orders
 
+-- two instructions to tell apart
+abbrev pub inc : Instruction
+inc = ins₁ Op.IncVal 0
+
+abbrev pub dec : Instruction
+dec = ins₁ Op.DecVal 0
+
+-- a machine with one value register
+abbrev pub oneValue : List SectionCode → Machine
+oneValue ss = record { lines = 1; sections = ss; numbers = []; strings = []; pool = []; values = 1; names = [] }
+
+abbrev pub chain : Machine
+chain = oneValue (head (inc ∷ []) (section 1) ∷ inner (dec ∷ []) (section 2) ∷ inner [] (section 0) ∷ [])
+
+-- after one join of it
+abbrev pub midway : Machine
+midway = oneValue (head (inc ∷ dec ∷ []) (section 1) ∷ inner [] (section 0) ∷ [])
+
+-- with (0, 1) joined, what was 2 is 1: (1, 2) is not allowed at its time
 pub in-time : map (endOf chain) (((0, 1) ∷ (1, 2) ∷ []) ∷ ((0, 1) ∷ []) ∷ ((1, 2) ∷ (0, 1) ∷ []) ∷ [])
-    ≡ none
-    ∷ some (chainJoined (head (ins₁ Op.IncVal 0 ∷ ins₁ Op.DecVal 0 ∷ []) (section 1) ∷ inner [] (section 0) ∷ []), some (0, 1))
-    ∷ some (chainJoined (head (ins₁ Op.IncVal 0 ∷ ins₁ Op.DecVal 0 ∷ []) (section 0) ∷ []), none)
-    ∷ []
-unfolding endOf chain chainJoined head
+    ≡ none ∷ some (midway, some (0, 1)) ∷ some (oneValue (head (inc ∷ dec ∷ []) (section 0) ∷ []), none) ∷ []
+unfolding endOf head
 in-time = refl
+
+-- one join is not the end of it
+pub not-the-end : EndsIn chain ((0, 1) ∷ []) midway → ⊥
+unfolding head
+not-the-end h = none-ne-some (0, 1) (sym h.1)
 
 -- ---- a ring
 
--- Sections 1 and 2 may take one another in. What is left is whichever takes first, with its own code in front.
-unfoldable pub ring : Machine
-unfolding oneLine head
-ring = oneLine 0 (head [] (section 0) ∷ inner (ins₁ Op.IncVal 0 ∷ []) (section 2) ∷ inner (ins₁ Op.DecVal 0 ∷ []) (section 1) ∷ []) [] 1
+-- Sections 1 and 2 may take one another in. What is left is whichever takes first, its own code in front.
+abbrev pub ring : Machine
+ring = oneValue (head [] (section 0) ∷ inner (inc ∷ []) (section 2) ∷ inner (dec ∷ []) (section 1) ∷ [])
 
 -- it keeps the rules of machine words
 pub ring-fits : fits (encode ring) (countsOf ring) ≡ true
-unfolding fits encode countsOf ring
+unfolding fits encode countsOf head
 ring-fits = refl
 
--- its two ends
-unfoldable pub ringEnd : List Instruction → Machine
-unfolding oneLine head
-ringEnd c = oneLine 0 (head [] (section 0) ∷ inner c (section 1) ∷ []) [] 1
+-- with this code
+abbrev pub ringEnd : List Instruction → Machine
+ringEnd c = oneValue (head [] (section 0) ∷ inner c (section 1) ∷ [])
 
-pub lower-takes : endOf ring ((1, 2) ∷ []) ≡ some (ringEnd (ins₁ Op.IncVal 0 ∷ ins₁ Op.DecVal 0 ∷ []), none)
-unfolding endOf ring ringEnd
-lower-takes = refl
+pub both-ends : map (endOf ring) (((1, 2) ∷ []) ∷ ((2, 1) ∷ []) ∷ []) ≡ some (ringEnd (inc ∷ dec ∷ []), none) ∷ some (ringEnd (dec ∷ inc ∷ []), none) ∷ []
+unfolding endOf head
+both-ends = refl
 
-pub higher-takes : endOf ring ((2, 1) ∷ []) ≡ some (ringEnd (ins₁ Op.DecVal 0 ∷ ins₁ Op.IncVal 0 ∷ []), none)
-unfolding endOf ring ringEnd
-higher-takes = refl
-
--- combining, lowest pair first, ends in the first
-pub combined-ring : combined ring ≡ ringEnd (ins₁ Op.IncVal 0 ∷ ins₁ Op.DecVal 0 ∷ [])
-unfolding combined ring ringEnd
+-- combining, lowest pair first, ends as the first does
+pub combined-ring : combined ring ≡ ringEnd (inc ∷ dec ∷ [])
+unfolding combined head
 combined-ring = refl
 
--- So there is no machine in which the ring ends in any order.
+-- So there is no machine in which it ends whatever the order.
 pub ring-ends-twice : (r : Machine) → AnyOrder ring r → ⊥
-unfolding ring ringEnd combineAt
+unfolding combineAt head
 ring-ends-twice r h =
-    let a = h ((1, 2) ∷ []) (ringEnd (ins₁ Op.IncVal 0 ∷ ins₁ Op.DecVal 0 ∷ [])) (refl, refl) in
-    let b = h ((2, 1) ∷ []) (ringEnd (ins₁ Op.DecVal 0 ∷ ins₁ Op.IncVal 0 ∷ [])) (refl, refl) in
-    let c : Op.IncVal ≡ Op.DecVal = ap (λ (m : Machine). (get_or (get_or m.sections 1 absent).instrs 0 (ins₁ 0 0)).op) (a ∙ sym b) in
+    let low = h ((1, 2) ∷ []) (ringEnd (inc ∷ dec ∷ [])) (refl, refl) in
+    let high = h ((2, 1) ∷ []) (ringEnd (dec ∷ inc ∷ [])) (refl, refl) in
+    let o : Op.IncVal ≡ Op.DecVal = ap (λ (m : Machine). (get_or (get_or m.sections 1 absent).instrs 0 inc).op) (low ∙ sym high) in
     omega arith

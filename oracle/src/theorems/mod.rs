@@ -3,6 +3,7 @@
 mod calls;
 mod instr;
 mod names;
+mod orders;
 mod terms;
 mod walks;
 
@@ -54,6 +55,7 @@ fn theorems(kind: &str, seed: u64, count: usize) -> Option<Vec<Theorem>> {
         "machines" => machines::cases(seed, count, SMALL).iter().map(change_theorem).collect(),
         "instr" => instr::theorems(&mut rng, count),
         "walks" => walks::theorems(seed, count),
+        "orders" => orders::theorems(seed, count),
         _ => return None,
     })
 }

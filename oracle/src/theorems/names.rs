@@ -7,6 +7,7 @@ pub fn uses(kind: &str) -> String {
     let more = match kind {
         "instr" => INSTR_USES,
         "walks" => WALK_USES,
+        "orders" => ORDER_USES,
         _ => CALL_USES,
     };
     format!("{USES}{more}")
@@ -37,22 +38,33 @@ const WALK_USES: &str = "\
 use Rattle.against.specs.Words.{options, ins, same, stopsAtJump, stopsAtGoto, fallsSilent, bothWalks, bothFirst}
 ";
 
+const ORDER_USES: &str = "\
+use Rattle.std.proofs.Math.Option.{none, some}
+use Rattle.rules.specs.Bits.{ok}
+use Rattle.against.specs.Words.{options, counts, tables, treeJoined, machineJoined}
+";
+
 pub const WORDS_MODULE: &str = "Words";
 
 /// The module that makes the definitions' records of plain arguments, in the judge's order.
 pub const WORDS: &str = "\
 -- The records of the definitions, made of plain arguments.
 use Rattle.std.specs.Prelude.{Bool, List, ℕ, ℤ, take}
+use Rattle.std.proofs.Math.Option.{Option, none, some}
 use Rattle.rules.specs.Bits.{Res, refused, ok}
 use Rattle.rules.specs.Parse.{parse}
 use Rattle.rules.specs.Word.{Span}
 use Rattle.rules.specs.Instr.{Instruction}
-use Rattle.rules.specs.Tables.{Tables, Counts}
+use Rattle.rules.specs.Machine.{Machine}
+use Rattle.rules.specs.Tables.{Tables, Counts, decode, encode, countsOf}
 use Rattle.rules.specs.Replace.{Regs}
-use Rattle.rules.specs.Lowered.{Options, finished}
+use Rattle.rules.specs.Clean.{cleaned}
+use Rattle.rules.specs.Combine.{pair, combineAt}
+use Rattle.rules.specs.Lowered.{Options, lowered, finished}
 use Rattle.rules.specs.Operations.{Size}
 use Rattle.rules.specs.Walk.{Trace, atJump, atGoto, ask, more, over, walk}
 use Rattle.rules.specs.Reading.{reading}
+use Rattle.rules.specs.JoinOrder.{joinPairs}
 
 abbrev pub options : Bool → Bool → Options
 options l g = record { locals = l; globals = g }
@@ -95,6 +107,20 @@ unfoldable pub bothFirst : ℕ → Options → List ℕ → List ℕ → ℕ →
 unfolding bothWalks
 bothFirst n o s os k = elim (bothWalks o s os k) [ refused r ↦ refused r | ok (a, b) ↦ ok (take n a.0, take n b.0) ]
 
+-- a machine joined in this order, if each pair is allowed at its time: its counts, its words, and a pair that is left
+unfoldable pub endOf : Machine → List (ℕ × ℕ) → Option (Counts × Tables × Option (ℕ × ℕ))
+unfolding combineAt countsOf encode
+endOf m ps = elim (joinPairs m ps) [ none ↦ none | some n ↦ some (countsOf n, encode n, pair n.sections) ]
+
+-- the cleaned machine of a file; a machine in tables
+unfoldable pub treeJoined : Options → List ℕ → List (ℕ × ℕ) → Res (Option (Counts × Tables × Option (ℕ × ℕ)))
+unfolding parse lowered cleaned endOf
+treeJoined o s ps = elim (parse s) [ refused n ↦ refused n | ok t ↦ ok (endOf (cleaned (lowered o t)) ps) ]
+
+unfoldable pub machineJoined : Tables → Counts → List (ℕ × ℕ) → Res (Option (Counts × Tables × Option (ℕ × ℕ)))
+unfolding decode endOf
+machineJoined t u ps = elim (decode t u) [ refused n ↦ refused n | ok m ↦ ok (endOf m ps) ]
+
 -- both are x
 abbrev pub same : {X : Type 0} → X → Res (X × X)
 same x = ok (x, x)
@@ -107,6 +133,8 @@ pub const FINLIST: &str = "finlist";
 pub const TEXT: &str = "textSpan";
 pub const BOTH_WALKS: &str = "bothWalks";
 pub const BOTH_FIRST: &str = "bothFirst";
+pub const TREE_JOINED: &str = "treeJoined";
+pub const MACHINE_JOINED: &str = "machineJoined";
 
 /// What is said of an instruction.
 pub const KINDS: &str = "kinds";
