@@ -1,9 +1,12 @@
 //! Joins in any order, on machines made by hand, and on all small ones.
 
-use crate::judge::{change, Answer, Op};
+use crate::bits::unhex;
+use crate::judge::{change, Answer, Op, Options};
+use crate::lowering::script;
 use crate::machine::{op, pack, Ins, Machine, Next, Sect};
-use crate::orders::{check_orders, every_end, join, pairs, Tally};
+use crate::orders::{check_midway, check_orders, cleaned_and_finished, every_end, join, pairs, Tally};
 use crate::rng::Rng;
+use crate::tree::decode;
 
 fn section(start: bool, next: usize, code: &[Ins]) -> Sect {
     Sect {
@@ -40,7 +43,7 @@ fn choices<T: Copy>(items: &[T], n: usize) -> Vec<Vec<T>> {
     (0..n).fold(vec![vec![]], |all, _| all.iter().flat_map(longer).collect())
 }
 
-/// All machines of one line with so many sections and instructions, of two kinds and of jumps; each section goes on to one.
+/// All machines of one line whose sections each go on to a section, with so many sections and instructions: two kinds, and jumps.
 fn all(sections: usize, instructions_in_all: usize) -> Vec<Machine> {
     let places: Vec<usize> = (0..sections).collect();
     let mut out = vec![];
@@ -62,7 +65,7 @@ fn all(sections: usize, instructions_in_all: usize) -> Vec<Machine> {
     out
 }
 
-/// Up to three sections and two instructions: only a ring of two sections, each with another instruction, ends twice, and it has as many.
+/// The only ones that end twice are those of three sections, two of them a ring, with two instructions, one in each and not the same.
 #[test]
 fn the_smallest_machine_that_ends_twice() {
     let sizes = [(1, 0), (1, 1), (1, 2), (2, 0), (2, 1), (2, 2), (3, 0), (3, 1)];
@@ -106,8 +109,9 @@ fn a_pair_is_allowed_by_each_condition() {
     assert_eq!(pairs(&several), [(2, 3)]);
 }
 
+/// A ring of two: every order is tried, and not each that is picked ends as the first.
 #[test]
-fn wrong_ends_are_noticed() {
+fn other_ends_are_noticed() {
     let ins = |op| Ins { op, fields: [0; 3] };
     let start = machine(vec![
         section(true, 0, &[]),
@@ -118,7 +122,27 @@ fn wrong_ends_are_noticed() {
     join(&mut end, (1, 2));
     let mut tally = Tally::default();
     check_orders(&mut tally, &mut Rng::new(1), &start, &end, None, "a ring");
-    assert!(!tally.wrong.is_empty());
+    for what in ["another end: a ring", "two ends: a ring"] {
+        assert!(tally.wrong.iter().any(|wrong| wrong.starts_with(what)), "{what}");
+    }
     let (counts, tables) = pack(&start);
     assert_eq!(change(Op::Combine, &counts, &tables).0, Answer::Refused(15));
+}
+
+/// `if a then b=1 end`, midway with another instruction.
+#[test]
+fn other_walks_midway_are_noticed() {
+    let tree = decode(&unhex("0101020184062056000e02200000000000001f4000").unwrap()).unwrap();
+    let (mut machine, _) = cleaned_and_finished(&tree, Options::of_number(Options::DEFAULT)).unwrap();
+    let mut rng = Rng::new(1);
+    let mut tally = Tally::default();
+    for _ in 0..20 {
+        check_midway(&mut tally, &mut rng, &script(&tree), &machine, "as it is");
+    }
+    assert!(tally.wrong.is_empty());
+    machine.sections[0].code[0].fields[0] = 1;
+    for _ in 0..20 {
+        check_midway(&mut tally, &mut rng, &script(&tree), &machine, "altered");
+    }
+    assert!(!tally.wrong.is_empty());
 }

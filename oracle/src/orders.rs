@@ -2,7 +2,7 @@
 //! machine must be walked as the tree is read.
 
 use crate::bits::hex;
-use crate::generate::{chains, machines, outcomes, trees};
+use crate::generate::{chains, in_turn, machines, outcomes, trees};
 use crate::judge::{change, machine_of, pass, Answer, Op, Options, Stage};
 use crate::limits::MOST_BYTES;
 use crate::line;
@@ -148,7 +148,7 @@ pub fn cleaned_and_finished(tree: &Tree, options: Options) -> Option<(Machine, M
 /// Orders of each machine, and up to how many pairs every order is tried.
 const ORDERS: usize = 4;
 const EVERY: usize = 5;
-/// Sections of machines that are joined: a clone of each is kept on the way.
+/// Sections of trees that are joined: each machine on the way is kept.
 const MOST_SECTIONS: usize = 400;
 /// Most outcomes of a list, and most instructions met.
 const LONG: usize = 60;
@@ -189,7 +189,7 @@ impl Tally {
 }
 
 /// Machines midway are walked as the script is read.
-fn check_midway(tally: &mut Tally, rng: &mut Rng, script: &Script, midway: &Machine, name: &str) {
+pub fn check_midway(tally: &mut Tally, rng: &mut Rng, script: &Script, midway: &Machine, name: &str) {
     let sort = rng.below(outcomes::SORTS);
     let list = outcomes::list(rng, sort, LONG, script);
     let (walked, read) = (walk(midway, &list, MOST), read(script, &list, MOST));
@@ -210,7 +210,14 @@ pub fn check_orders(
     for _ in 0..ORDERS {
         let choice = Choice::new(rng, machine);
         let (order, way) = joined(rng, choice, machine);
-        tally.add("orders", 1);
+        tally.add(
+            if order.len() < 2 {
+                "orders of one join or none"
+            } else {
+                "orders of more joins"
+            },
+            1,
+        );
         tally.add("joins", order.len());
         tally.longest = tally.longest.max(order.len());
         tally.require(way.last() == Some(end), || format!("another end: {name} {order:?}"));
@@ -242,25 +249,34 @@ fn check_file(tally: &mut Tally, rng: &mut Rng, bytes: &[u8]) {
 
 fn check_case(tally: &mut Tally, rng: &mut Rng, (op, counts, tables): &machines::Case) {
     let (answer, after) = change(*op, counts, tables);
-    let (Op::Combine, Answer::Done(done)) = (op, answer) else {
-        return;
+    let Answer::Done(done) = answer else {
+        return tally.add("machines refused", 1);
     };
     let (machine, end) = (unpack(counts, tables), unpack(&done, &after));
-    if machine.sections.len() <= MOST_SECTIONS {
-        tally.add("machines handed in", 1);
-        check_orders(tally, rng, &machine, &end, None, &line::print(counts, tables));
-    }
+    tally.add("machines handed in", 1);
+    check_orders(tally, rng, &machine, &end, None, &line::print(counts, tables));
 }
 
-/// The report, and whether all held: of COUNT trees, and of as many machines that are handed in, refused ones left out.
+/// Machines that are handed to combine: at random, and of chains.
+pub fn handed(seed: u64, count: usize) -> Vec<machines::Case> {
+    let mut rng = Rng::new(seed);
+    let mut random = |i: usize| {
+        let machine = machines::random(&mut rng, Op::Combine, i % 8 != 0);
+        let (counts, tables) = machines::lend(&mut rng, &machine);
+        (Op::Combine, counts, tables)
+    };
+    let any: Vec<machines::Case> = (0..count - count / 2).map(&mut random).collect();
+    in_turn(vec![any, chains::cases(seed, count / 2)]).collect()
+}
+
+/// The report, and whether all held: of COUNT trees, and of as many machines that are handed in.
 pub fn run(seed: u64, count: usize) -> (String, bool) {
     let mut tally = Tally::default();
     let mut rng = Rng::new(!seed);
     for bytes in trees::files(seed, count, MOST_BYTES) {
         check_file(&mut tally, &mut rng, &bytes);
     }
-    let of_any = machines::cases(seed, count / 2, MOST_BYTES);
-    for case in of_any.into_iter().chain(chains::cases(seed, count / 2)) {
+    for case in handed(seed, count) {
         check_case(&mut tally, &mut rng, &case);
     }
     (tally.text(), tally.wrong.is_empty())

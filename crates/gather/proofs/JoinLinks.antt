@@ -160,6 +160,14 @@ module _ (m : List SectionCode) (i j : ℕ) (e : next m i ≡ some j) where
             go (inl k) = below k (split j v v (omega arith) p p (fall j v) (fall j v) y refl v p refl)
             go (inr k) = above (omega (arith, p)) (split v v v (omega arith) p p (fall j v) (fall j v) y refl v p refl)
 
+    -- where j may take i in as well, i is the lowest of that ring
+    pub back-lowest : next m j ≡ some i → lowest m i ≡ true
+    back-lowest r = of-round m i (more e (up (lt-or-le i j)) (one r))
+      where
+        up : (i < j) ⊎ (j ≤ i) → i < j
+        up (inl k) = k
+        up (inr k) = absurd (no-round m j low (more r (omega (arith, i≢j)) (one e)))
+
     -- ---- links
 
     cut-stays : (o : Option ℕ) → ((v : ℕ) → o ≡ some v → (v ≡ j → ⊥) × (next m j ≡ some i → v ≡ i → ⊥)) → cut (combineAt m i j) (mapped (fall j) o) ≡ mapped (fall j) (cut m o)
@@ -181,17 +189,10 @@ module _ (m : List SectionCode) (i j : ℕ) (e : next m i ≡ some j) where
         go (some x) q = by (cases_eq x i)
           where
             by : (x ≡ i) ⊎ (x ≡ i → ⊥) → link (combineAt m i j) (fall j i) ≡ mapped (fall j) (link m j)
-            by (inl a) = ap (cut (combineAt m i j)) (next-round m i j e r) ∙ sym (ap (λ (o : Option ℕ). mapped (fall j) (cut m o)) r ∙ ap (λ (b : Bool). mapped (fall j) (cond b none (some i))) lo)
-              where
-                r : next m j ≡ some i
-                r = q ∙ ap some a
-
-                up : (i < j) ⊎ (j ≤ i) → i < j
-                up (inl k) = k
-                up (inr k) = absurd (no-round m j low (more r (omega (arith, i≢j)) (one e)))
-
-                lo : lowest m i ≡ true
-                lo = of-round m i (more e (up (lt-or-le i j)) (one r))
+            by (inl a) =
+                let r : next m j ≡ some i = q ∙ ap some a in
+                ap (cut (combineAt m i j)) (next-round m i j e r)
+                ∙ sym (ap (λ (o : Option ℕ). mapped (fall j) (cut m o)) r ∙ ap (λ (b : Bool). mapped (fall j) (cond b none (some i))) (back-lowest r))
             by (inr a) =
                 let away : next m j ≡ some i → ⊥ = λ z. (let d : some x ≡ some i = sym q ∙ z in a cc) in
                 ap (cut (combineAt m i j)) (next-joint m i j e away) ∙ cut-stays (next m j) (λ v b. (not-j j v (λ c. i≢j (sym c)) b, λ c. absurd (away c)))

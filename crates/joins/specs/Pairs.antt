@@ -1,5 +1,5 @@
 -- A pair that may be joined, S1 and its successor S2, and the search for the lowest. Assumes nothing.
-use Rattle.std.specs.Prelude.{◌≡◌, refl, ◌⊎◌, Bool, true, false, cond, not, ◌&&◌, List, [], ◌∷◌, ℕ, zero, suc, ◌+◌, ◌<◌, ◌≤◌, eqb, length, get_or}
+use Rattle.std.specs.Prelude.{◌≡◌, refl, ◌⊎◌, Bool, true, false, cond, not, ◌&&◌, List, ℕ, zero, suc, ◌+◌, ◌<◌, ◌≤◌, eqb, length, get_or}
 use Rattle.std.proofs.Common.{sym, ap, ◌∙◌, inl, inr, not-suc-le-zero, arith, eqb-true, ne_eqb}
 use Rattle.std.proofs.lemmas.Bool.{not-true}
 use Rattle.std.proofs.Math.Option.{Option, none, some, none-ne-some}
@@ -54,59 +54,53 @@ abbrev pub Low : List SectionCode → ℕ → Type 0
 Low m i = (t : ℕ) → t < i → next m t ≡ none
 
 module _ (m : List SectionCode) where
-  at-zero : (t : ℕ) → 0 + t ≡ t
-  at-zero t = omega arith
-
-  further : (k t : ℕ) → suc k + t ≡ k + suc t
-  further k t = omega arith
+  further : (i t : ℕ) → suc i + t ≡ i + suc t
+  further i t = omega arith
 
   -- a pair that is found is one
-  found-pair : (ss : List SectionCode) (k : ℕ) (p : ℕ × ℕ) → ((t : ℕ) → get_or ss t absent ≡ get_or m (k + t) absent) → pairFrom m ss k ≡ some p → Pair m p.0 p.1
-  found-pair [] k p h e = let z : ◌≡◌ {A = ℕ} 0 1 = cc in absurd (omega arith)
-  found-pair (s ∷ ss) k p h e = go (mate m k s.success) refl (λ f. found-pair ss (suc k) p (λ t. h (suc t) ∙ ap (λ n. get_or m n absent) (sym (further k t))) f) e
+  found-pair : (k i : ℕ) (p : ℕ × ℕ) → pairFrom m i k ≡ some p → Pair m p.0 p.1
+  found-pair zero i p e = absurd (none-ne-some p e)
+  found-pair (suc k) i p e = go (next m i) refl (found-pair k (suc i) p) e
     where
-      here : s ≡ get_or m k absent
-      here = let z : k + 0 ≡ k = omega arith in rw z at (h 0)
-
-      go : (o : Option ℕ) → mate m k s.success ≡ o → (pairFrom m ss (suc k) ≡ some p → Pair m p.0 p.1) → elim o [ none ↦ pairFrom m ss (suc k) | some j ↦ some (k, j) ] ≡ some p → Pair m p.0 p.1
+      go : (o : Option ℕ) → next m i ≡ o → (pairFrom m (suc i) k ≡ some p → Pair m p.0 p.1) → elim o [ none ↦ pairFrom m (suc i) k | some j ↦ some (i, j) ] ≡ some p → Pair m p.0 p.1
       go none q ih f = ih f
       go (some j) q ih f =
-          let a : (k, j) ≡ p = cc in
-          rw (← a) (to-pair m k j (ap (λ (z : SectionCode). mate m k z.success) (sym here) ∙ q))
+          let a : (i, j) ≡ p = cc in
+          rw (← a) (to-pair m i j q)
 
   pub pair-found : (p : ℕ × ℕ) → pair m ≡ some p → Pair m p.0 p.1
-  pair-found p e = found-pair m 0 p (λ t. ap (λ n. get_or m n absent) (sym (at-zero t))) e
+  pair-found p e = found-pair (length m) 0 p e
 
-  -- where none is found, none of the sections from k on may take its successor in
-  none-from : (k : ℕ) (ss : List SectionCode) → pairFrom m ss k ≡ none → (t : ℕ) → t < length ss → mate m (k + t) (get_or ss t absent).success ≡ none
-  none-from k [] e t h = absurd (not-suc-le-zero h)
-  none-from k (s ∷ ss) e t h = go (mate m k s.success) refl (none-from (suc k) ss) e t h
+  -- where none is found, none of the k sections from i on may take its successor in
+  none-from : (k i : ℕ) → pairFrom m i k ≡ none → (t : ℕ) → t < k → next m (i + t) ≡ none
+  none-from zero i e t h = absurd (not-suc-le-zero h)
+  none-from (suc k) i e t h = go (next m i) refl (none-from k (suc i)) e t h
     where
-      go : (o : Option ℕ) → mate m k s.success ≡ o → (pairFrom m ss (suc k) ≡ none → (t : ℕ) → t < length ss → mate m (suc k + t) (get_or ss t absent).success ≡ none) → elim o as (λ z. Option (ℕ × ℕ)) [ none ↦ pairFrom m ss (suc k) | some j ↦ some (k, j) ] ≡ none
-          → (t : ℕ) → t < suc (length ss) → mate m (k + t) (get_or (s ∷ ss) t absent).success ≡ none
-      go none q ih f zero l = let z : k + 0 ≡ k = omega arith in rw z q
-      go none q ih f (suc t) l = rw (← further k t) (ih f t (omega arith))
-      go (some j) q ih f t l = absurd (none-ne-some (k, j) (sym f))
+      go : (o : Option ℕ) → next m i ≡ o → (pairFrom m (suc i) k ≡ none → (t : ℕ) → t < k → next m (suc i + t) ≡ none) → elim o as (λ z. Option (ℕ × ℕ)) [ none ↦ pairFrom m (suc i) k | some j ↦ some (i, j) ] ≡ none
+          → (t : ℕ) → t < suc k → next m (i + t) ≡ none
+      go none q ih f zero l = let z : i + 0 ≡ i = omega arith in rw z q
+      go none q ih f (suc t) l = rw (← further i t) (ih f t (omega arith))
+      go (some j) q ih f t l = absurd (none-ne-some (i, j) (sym f))
 
   -- and below one that is found, none may
-  low-from : (k : ℕ) (ss : List SectionCode) (p : ℕ × ℕ) → pairFrom m ss k ≡ some p → (t : ℕ) → t < length ss → k + t < p.0 → mate m (k + t) (get_or ss t absent).success ≡ none
-  low-from k [] p e t h b = absurd (not-suc-le-zero h)
-  low-from k (s ∷ ss) p e t h b = go (mate m k s.success) refl (low-from (suc k) ss p) e t h b
+  low-from : (k i : ℕ) (p : ℕ × ℕ) → pairFrom m i k ≡ some p → (t : ℕ) → t < k → i + t < p.0 → next m (i + t) ≡ none
+  low-from zero i p e t h b = absurd (not-suc-le-zero h)
+  low-from (suc k) i p e t h b = go (next m i) refl (low-from k (suc i) p) e t h b
     where
-      go : (o : Option ℕ) → mate m k s.success ≡ o → (pairFrom m ss (suc k) ≡ some p → (t : ℕ) → t < length ss → suc k + t < p.0 → mate m (suc k + t) (get_or ss t absent).success ≡ none)
-          → elim o [ none ↦ pairFrom m ss (suc k) | some j ↦ some (k, j) ] ≡ some p → (t : ℕ) → t < suc (length ss) → k + t < p.0 → mate m (k + t) (get_or (s ∷ ss) t absent).success ≡ none
-      go none q ih f zero l b = let z : k + 0 ≡ k = omega arith in rw z q
-      go none q ih f (suc t) l b = rw (← further k t) (ih f t (omega arith) (omega arith))
-      go (some j) q ih f t l b = let z : (k, j) ≡ p = cc in absurd (omega (arith, ap (λ (x : ℕ × ℕ). x.0) z))
+      go : (o : Option ℕ) → next m i ≡ o → (pairFrom m (suc i) k ≡ some p → (t : ℕ) → t < k → suc i + t < p.0 → next m (suc i + t) ≡ none) → elim o [ none ↦ pairFrom m (suc i) k | some j ↦ some (i, j) ] ≡ some p
+          → (t : ℕ) → t < suc k → i + t < p.0 → next m (i + t) ≡ none
+      go none q ih f zero l b = let z : i + 0 ≡ i = omega arith in rw z q
+      go none q ih f (suc t) l b = rw (← further i t) (ih f t (omega arith) (omega arith))
+      go (some j) q ih f t l b = let z : (i, j) ≡ p = cc in absurd (omega (arith, ap (λ (x : ℕ × ℕ). x.0) z))
 
   pub none-low : pair m ≡ none → Low m (length m)
-  none-low e t h = rw at-zero at (none-from 0 m e t h)
+  none-low e t h = let z : 0 + t ≡ t = omega arith in rw z at (none-from (length m) 0 e t h)
 
   pub found-low : (p : ℕ × ℕ) → pair m ≡ some p → Low m p.0
   found-low p e t h = go (lt-or-le t (length m))
     where
       go : (t < length m) ⊎ (length m ≤ t) → next m t ≡ none
-      go (inl l) = let z : 0 + t ≡ t = omega arith in rw z at (low-from 0 m p e t l (omega arith))
+      go (inl l) = let z : 0 + t ≡ t = omega arith in rw z at (low-from (length m) 0 p e t l (omega arith))
       go (inr l) = rw (get_or-eq_default m absent l) refl
 
   -- ---- what combining makes of it

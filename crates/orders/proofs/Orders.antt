@@ -1,11 +1,12 @@
--- Joins in any order, of any machine: what each join keeps, all keep; without a ring they end where combining does; and they do end. Assumes nothing else.
-use Rattle.std.specs.Prelude.{◌≡◌, refl, ◌↔◌, Bool, true, false, List, [], ◌∷◌, ◌++◌, ℕ, zero, suc, ◌+◌, ◌≤◌, eqb, length}
-use Rattle.std.proofs.Common.{sym, ap, subst, ◌∙◌, arith, eqb-true, eq-eqb, not-suc-le-zero}
+-- Joins in any order, of any machine: what each join keeps, all keep; without a ring every order ends where combining does; and every order comes to an end.
+use Rattle.std.specs.Prelude.{◌≡◌, refl, ◌↔◌, Bool, true, false, List, [], ◌∷◌, ◌++◌, ℕ, zero, suc, ◌+◌, eqb, length}
+use Rattle.std.proofs.Common.{sym, ap, subst, ◌∙◌, arith, eqb-true, eq-eqb}
 use Rattle.std.proofs.lemmas.Bool.{false≢true}
 use Rattle.std.proofs.Math.Option.{Option, none, some, none-ne-some}
-use Rattle.rules.specs.Combine.{next, pair, combineAt, combineFuel, combineSections, combined}
-use Rattle.rules.specs.JoinOrder.{allowed, joinPair, joinPairs, EndsIn, AnyOrder}
+use Rattle.rules.specs.Combine.{next, pair, combineFuel, combineSections, combined}
+use Rattle.rules.specs.JoinOrder.{allowed, joinPair, joinPairs, EndsIn, EveryOrderEndsIn}
 use Rattle.rules.specs.Machine.{SectionCode, Machine, withSections}
+use Rattle.joins.specs.Along.{combine-ends}
 use Rattle.joins.specs.Joins.{length-join}
 use Rattle.joins.specs.Pairs.{to-pair, of-pair, pair-found}
 use Rattle.gather.proofs.Ends.{pair-none}
@@ -76,47 +77,42 @@ record Gathers (g : Machine) (m : Machine) : Type 0 where
   ringless : Ringless m.sections
   same : withSections m (gather m.sections) ≡ g
 
--- Joined in any order, a machine without a ring ends as combining leaves it.
-pub any-order : (m : Machine) → Ringless m.sections → AnyOrder m (combined m)
+-- Whatever the order, a machine without a ring ends as combining leaves it.
+pub every-order : (m : Machine) → Ringless m.sections → EveryOrderEndsIn m (combined m)
 unfolding combined
-any-order m h ps n (e, f) =
+every-order m h ps n (e, f) =
     let g = withSections m (gather m.sections) in
     let k = joins-keep (Gathers g) (λ l i j q r. record { ringless = join-ringless l.sections r.ringless i j q; same = ap (withSections l) (join-gather l.sections i j q (r.ringless j)) ∙ r.same }) ps m n e (record { ringless = h; same = refl }) in
     sym (ap (withSections n) (gather-none n.sections f)) ∙ (k.same ∙ sym (ap (withSections m) (combine-gather m.sections)))
 
 -- ---- joining comes to an end
 
--- Each join takes one section away, so no order is longer than there are sections.
-pub joins-shorten : (ps : List (ℕ × ℕ)) (m n : Machine) → joinPairs m ps ≡ some n → length n.sections + length ps ≡ length m.sections
-joins-shorten [] m n e = omega (arith, ap (λ (k : Machine). length k.sections) (none-joined m n e))
-joins-shorten (p ∷ ps) m n e =
+-- Each join takes one section away, so no order goes on for ever.
+pub order-length : (ps : List (ℕ × ℕ)) (m n : Machine) → joinPairs m ps ≡ some n → length n.sections + length ps ≡ length m.sections
+order-length [] m n e = omega (arith, ap (λ (k : Machine). length k.sections) (none-joined m n e))
+order-length (p ∷ ps) m n e =
     let f = first m p ps n e in
-    omega (arith, joins-shorten ps (joinPair m p) n f.others, length-join m.sections p.0 p.1 (to-pair m.sections p.0 p.1 f.takes))
+    omega (arith, order-length ps (joinPair m p) n f.others, length-join m.sections p.0 p.1 (to-pair m.sections p.0 p.1 f.takes))
 
 -- combining's own order, the lowest pair first
-no-sections : (l : List SectionCode) → length l ≤ 0 → pair l ≡ none
-no-sections [] h = refl
-no-sections (s ∷ l) h = absurd (not-suc-le-zero h)
-
-lowest-fuel : (k : ℕ) (m : Machine) → length m.sections ≤ k → (ps : List (ℕ × ℕ)) × EndsIn m ps (withSections m (combineFuel k m.sections))
-lowest-fuel zero m h = ([], (refl, no-sections m.sections h))
-lowest-fuel (suc k) m h = go (pair m.sections) refl (λ n q. lowest-fuel k n q)
+lowest-fuel : (k : ℕ) (m : Machine) → (ps : List (ℕ × ℕ)) × (joinPairs m ps ≡ some (withSections m (combineFuel k m.sections)))
+lowest-fuel zero m = ([], refl)
+lowest-fuel (suc k) m = go (pair m.sections) refl (λ n. lowest-fuel k n)
   where
-    Ends : List SectionCode → Type 0
-    Ends l = (ps : List (ℕ × ℕ)) × EndsIn m ps (withSections m l)
+    Leads : List SectionCode → Type 0
+    Leads l = (ps : List (ℕ × ℕ)) × (joinPairs m ps ≡ some (withSections m l))
 
-    go : (o : Option (ℕ × ℕ)) → pair m.sections ≡ o → ((n : Machine) → length n.sections ≤ k → (ps : List (ℕ × ℕ)) × EndsIn n ps (withSections n (combineFuel k n.sections))) → Ends (combineFuel (suc k) m.sections)
-    go none e ih = let c : combineFuel (suc k) m.sections ≡ m.sections = rw (e, combineFuel) refl in subst Ends (sym c) ([], (refl, e))
+    go : (o : Option (ℕ × ℕ)) → pair m.sections ≡ o → ((n : Machine) → (ps : List (ℕ × ℕ)) × (joinPairs n ps ≡ some (withSections n (combineFuel k n.sections)))) → Leads (combineFuel (suc k) m.sections)
+    go none e ih = subst Leads (rw (e, combineFuel) refl) ([], refl)
     go (some p) e ih =
-        let q = pair-found m.sections p e in
-        let x = ih (joinPair m p) (omega (arith, length-join m.sections p.0 p.1 q)) in
-        let c : combineFuel (suc k) m.sections ≡ combineFuel k (combineAt m.sections p.0 p.1) = rw (e, combineFuel) refl in
-        subst Ends (sym c) (p ∷ x.0, (goes m p x.0 (of-pair m.sections p.0 p.1 q) ∙ x.1.0, x.1.1))
+        let x = ih (joinPair m p) in
+        let q = of-pair m.sections p.0 p.1 (pair-found m.sections p e) in
+        subst Leads (rw (e, combineFuel) refl) (p ∷ x.0, goes m p x.0 q ∙ x.1)
 
 pub lowest-first : (m : Machine) → (ps : List (ℕ × ℕ)) × EndsIn m ps (combined m)
 unfolding combined combineSections
-lowest-first m = lowest-fuel (length m.sections) m (omega arith)
+lowest-first m = let x = lowest-fuel (length m.sections) m in (x.0, (x.1, combine-ends m.sections))
 
--- So joins that have begun come to an end.
-pub joins-end : (ps : List (ℕ × ℕ)) (m n : Machine) → joinPairs m ps ≡ some n → (qs : List (ℕ × ℕ)) × EndsIn m (ps ++ qs) (combined n)
-joins-end ps m n e = let x = lowest-first n in (x.0, (joins-append ps x.0 m n e ∙ x.1.0, x.1.1))
+-- So joining, however it was begun, can go on to an end.
+pub joins-go-on : (ps : List (ℕ × ℕ)) (m n : Machine) → joinPairs m ps ≡ some n → (qs : List (ℕ × ℕ)) × EndsIn m (ps ++ qs) (combined n)
+joins-go-on ps m n e = let x = lowest-first n in (x.0, (joins-append ps x.0 m n e ∙ x.1.0, x.1.1))

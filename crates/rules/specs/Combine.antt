@@ -37,24 +37,24 @@ refs t (s ∷ ss) = (refsNext t s.success + refsCode t s.instrs) + refs t ss
 abbrev pub mayTake : List SectionCode → ℕ → ℕ → Bool
 mayTake m i j = not (eqb i j) && (not (get_or m j absent).lineStart && eqb (refs j m) 1)
 
--- the section that section i may take in
+-- what section i may take in where its successor is this: the successor, if any
 abbrev pub mate : List SectionCode → ℕ → SectionOrLine → Option ℕ
 mate m i unfixed = none
 mate m i (section j) = cond (mayTake m i j) (some j) none
 mate m i (line r) = none
 
--- the section that section i may take in, its own successor
+-- the section that section i may take in
 abbrev pub next : List SectionCode → ℕ → Option ℕ
 next m i = mate m i (get_or m i absent).success
 
--- the lowest pair among the sections ss, which are m's from number i on
-abbrev pub pairFrom : List SectionCode → List SectionCode → ℕ → Option (ℕ × ℕ)
-pairFrom m [] i = none
-pairFrom m (s ∷ ss) i = elim (mate m i s.success) [ none ↦ pairFrom m ss (suc i) | some j ↦ some (i, j) ]
+-- the lowest pair of one of the k sections from number i on and what it may take in
+abbrev pub pairFrom : List SectionCode → ℕ → ℕ → Option (ℕ × ℕ)
+pairFrom m i zero = none
+pairFrom m i (suc k) = elim (next m i) [ none ↦ pairFrom m (suc i) k | some j ↦ some (i, j) ]
 
 -- the lowest pair S1, S2
 abbrev pub pair : List SectionCode → Option (ℕ × ℕ)
-pair m = pairFrom m m 0
+pair m = pairFrom m 0 (length m)
 
 -- ---- joining
 

@@ -4,6 +4,7 @@ use Rattle.std.specs.Prelude.{◌≡◌, refl, true, false, List, [], ◌∷◌,
 use Rattle.std.proofs.Common.{sym, ap, ◌∙◌, arith}
 use Rattle.std.proofs.Math.Option.{Option, none, some, none-ne-some}
 use Rattle.rules.specs.Bits.{Res, refused, ok}
+use Rattle.rules.specs.Tree.{Tree}
 use Rattle.rules.specs.Parse.{parse}
 use Rattle.rules.specs.Opcode as Op
 use Rattle.rules.specs.Instr.{Instruction, ins₁}
@@ -12,8 +13,8 @@ use Rattle.rules.specs.Tables.{encode, countsOf, fits}
 use Rattle.rules.specs.Assemble.{inner}
 use Rattle.rules.specs.Clean.{cleaned}
 use Rattle.rules.specs.Combine.{pair, combineAt, combined}
-use Rattle.rules.specs.Lowered.{defaults, lowered, finished}
-use Rattle.rules.specs.JoinOrder.{allowed, joinPairs, EndsIn, AnyOrder}
+use Rattle.rules.specs.Lowered.{Options, defaults, lowered, finished}
+use Rattle.rules.specs.JoinOrder.{allowed, joinPairs, EndsIn, EveryOrderEndsIn, OrderIndependent}
 use Rattle.rules.specs.Examples.{bytes, head}
 
 -- ---- files
@@ -42,8 +43,11 @@ ordered =
     }
     -- ++a ++a, and on the next line ++a
     ∷ record { file = bytes 11 0x01020101842A014001A000; orders = ((0, 2) ∷ []) ∷ [] }
-    -- two empty lines
+    -- two empty lines; x=1 y=2; if a then b=1 end; goto 1 if a then end
     ∷ record { file = bytes 5 0x0102000000; orders = [] ∷ [] }
+    ∷ record { file = bytes 28 0x01010201E00790B00100000000000000FA301100000000000001F400; orders = ((0, 1) ∷ []) ∷ [] }
+    ∷ record { file = bytes 21 0x0101020184062056000E02200000000000001F4000; orders = ((0, 2) ∷ []) ∷ [] }
+    ∷ record { file = bytes 18 0x01010101842200000000000001F42C000000; orders = [] ∷ [] }
     ∷ []
 
 -- where an order ends, and whether a pair is left
@@ -63,6 +67,10 @@ inFinished r = elim (parse r.file) [ refused n ↦ refused n | ok t ↦ ok (repl
 pub orders-end : map ends ordered ≡ map inFinished ordered
 unfolding ends inFinished ordered
 orders-end = refl
+
+-- word by word: what the claim says of a tree
+pub same-words : (o : Options) (t : Tree) → OrderIndependent o t → (ps : List (ℕ × ℕ)) (n : Machine) → EndsIn (cleaned (lowered o t)) ps n → encode n ≡ encode (finished o t)
+same-words o t claim ps n e = ap encode (claim.every ps n e)
 
 -- ---- pairs
 
@@ -116,7 +124,7 @@ not-the-end h = none-ne-some (0, 1) (sym h.1)
 
 -- ---- a ring
 
--- Sections 1 and 2 may take one another in. What is left is whichever takes first, its own code in front.
+-- Sections 1 and 2 may take one another in. Whichever takes the other in is left, its own code in front.
 abbrev pub ring : Machine
 ring = oneValue (head [] (section 0) ∷ inner (inc ∷ []) (section 2) ∷ inner (dec ∷ []) (section 1) ∷ [])
 
@@ -139,7 +147,7 @@ unfolding combined head
 combined-ring = refl
 
 -- So there is no machine in which it ends whatever the order.
-pub ring-ends-twice : (r : Machine) → AnyOrder ring r → ⊥
+pub ring-ends-twice : (r : Machine) → EveryOrderEndsIn ring r → ⊥
 unfolding combineAt head
 ring-ends-twice r h =
     let low = h ((1, 2) ∷ []) (ringEnd (inc ∷ dec ∷ [])) (refl, refl) in

@@ -72,7 +72,7 @@ module _ (t : Script) (pos : 0 < length t) where
     tree-to-clean : Within (readScript t os) (walkSections (cleanSections (sectionsOf t)) (length t) os)
     tree-to-clean = within-trans (readScript t os) (walkSections (sectionsOf t) (length t) os) (walkSections (cleanSections (sectionsOf t)) (length t) os) tree-to-low (λ k. (k, inl (clean-is k)))
 
-    -- Whatever is kept of the cleaned sections by joining is walked as the script is read,
+    -- Sections that keep the walks of the cleaned ones, as joined ones do, are walked as the script is read,
     module _ (m : List SectionCode) (k : Kept (length t) (cleanSections (sectionsOf t)) m) where
       joined-to-tree : Within (walkSections m (length t) os) (readScript t os)
       joined-to-tree = within-trans (walkSections m (length t) os) (walkSections (cleanSections (sectionsOf t)) (length t) os) (readScript t os) (k.back os) clean-to-tree

@@ -18,7 +18,7 @@ use Rattle.laws.specs.Lists.{not-both, both}
 use Rattle.joins.specs.Along.{Fixed, Ready, combine-ends}
 use Rattle.walks.specs.CombineWalk.{combine-keeps}
 
--- what combine leaves: the words of the combined machine, which meets and asks what the one handed in does, and has no pair
+-- what combine leaves where it accepts a machine: the words of the combined one, which meets and asks what the one handed in does, and has no pair
 pub record Combines (t : Tables) (u v : Counts) : Type 0 where
   pub machine : Machine
   pub decoded : decode t u ≡ ok machine
@@ -60,10 +60,10 @@ some-line : (t : Tables) (u : Counts) → countsFit t u ≡ true → 0 < u.lines
 unfolding countsFit
 some-line t u e = ltb-true 0 u.lines (first _ _ (first _ _ (first _ _ (first _ _ (first _ _ (first _ _ (first _ _ (first _ _ (first _ _ e)))))))))
 
-all-fixed : (m : List SectionCode) → allb fixedHere m ≡ true → Fixed m
+fixed-all : (m : List SectionCode) → allb fixedHere m ≡ true → Fixed m
 unfolding allb fixedHere
-all-fixed [] e = tt
-all-fixed (s ∷ m) e = go (fixedHere s) refl e (all-fixed m)
+fixed-all [] e = tt
+fixed-all (s ∷ m) e = go (fixedHere s) refl e (fixed-all m)
   where
     go : (b : Bool) → fixedHere s ≡ b → elim b [ false ↦ false | true ↦ allb fixedHere m ] ≡ true → (allb fixedHere m ≡ true → Fixed m) → Fixed (s ∷ m)
     go false p q ih = absurd (not-both false q refl)
@@ -109,9 +109,9 @@ pub record Accepts (m r : Machine) : Type 0 where
   pub ahead : allAhead m.sections 0 m.sections ≡ true
   pub gives : combined m ≡ r
 
-pub combine-accepts : (t : Tables) (m r : Machine) → combineIn t m ≡ ok r → Accepts m r
+pub combine-accepted : (t : Tables) (m r : Machine) → combineIn t m ≡ ok r → Accepts m r
 unfolding combineIn
-combine-accepts t m r e = first (allb fixedHere m.sections) refl e
+combine-accepted t m r e = first (allb fixedHere m.sections) refl e
   where
     then : Fixed m.sections → (b : Bool) → allAhead m.sections 0 m.sections ≡ b → elim b [ false ↦ refused Refusal.linksBack | true ↦ ok (combined m) ] ≡ ok r → Accepts m r
     then f false p q = absurd (refused≢ok Refusal.linksBack r q)
@@ -119,7 +119,7 @@ combine-accepts t m r e = first (allb fixedHere m.sections) refl e
 
     first : (b : Bool) → allb fixedHere m.sections ≡ b → elim b [ false ↦ refused Refusal.isUnfixed | true ↦ elim (allAhead m.sections 0 m.sections) [ false ↦ refused Refusal.linksBack | true ↦ ok (combined m) ] ] ≡ ok r → Accepts m r
     first false p q = absurd (refused≢ok Refusal.isUnfixed r q)
-    first true p q = then (all-fixed m.sections p) (allAhead m.sections 0 m.sections) refl q
+    first true p q = then (fixed-all m.sections p) (allAhead m.sections 0 m.sections) refl q
 
 module _ (t : Tables) (u : Counts) where
   no-machine : (n : ℕ) → decode t u ≡ refused n → (combine t u).0 ≡ refused n
@@ -141,7 +141,7 @@ combines t u v e = from (decode t u) refl (begins t u)
   where
     kept : (m r : Machine) → decode t u ≡ ok m → Begins (ok m) → combineIn t m ≡ ok r → Combines t u v
     kept m r p b q =
-        let f = combine-accepts t m r q in
+        let f = combine-accepted t m r q in
         let w : combine t u ≡ (ok (countsOf (combined m)), write u (combined m) t) = rw f.gives (written t u m r p q) in
         let ready : Ready m.lines m.sections = record { fixed = f.fixed; starts = b.1 } in
         let k = combine-keeps m.lines b.0 m.sections ready in

@@ -5,11 +5,11 @@ use super::names;
 use super::terms::{counts_term, list, options_term, plain, tables_term};
 use super::Theorem;
 use crate::bits::hex;
-use crate::generate::{chains, machines, trees};
-use crate::judge::{change, Answer, Op, Options};
+use crate::generate::{machines, trees};
+use crate::judge::{change, Answer, Options};
 use crate::line;
-use crate::machine::{pack, unpack, Machine};
-use crate::orders::{cleaned_and_finished, joined, pairs, Choice, Pair};
+use crate::machine::{pack, unpack, Machine, Next};
+use crate::orders::{cleaned_and_finished, handed, joined, pairs, Choice, Pair};
 use crate::rng::Rng;
 use crate::tree::decode;
 
@@ -26,8 +26,36 @@ fn pair_term((first, second): &Pair) -> String {
     format!("({first}, {second})")
 }
 
+/// A pair that is not allowed: a section with a successor that it may not take in, the two of an allowed pair exchanged, one with the numbers that it had a
+/// join before, or any two.
+fn wrong_pair(rng: &mut Rng, machine: &Machine, before: Option<&Machine>) -> Pair {
+    let sections = machine.sections.len();
+    let allowed = pairs(machine);
+    let next = |first: usize| match machine.sections[first].next {
+        Next::Section(t) => Some((first, usize::from(t))),
+        _ => None,
+    };
+    let untakable = (0..sections).filter_map(next);
+    let exchanged = allowed.iter().map(|&(first, second)| (second, first));
+    let as_before = before.map(pairs).unwrap_or_default();
+    let any = (rng.below(sections + 1), rng.below(sections + 1));
+    let sorts: [Vec<Pair>; 4] = [
+        untakable.collect(),
+        exchanged.collect(),
+        as_before,
+        vec![any, (sections, sections)],
+    ];
+    loop {
+        let sort = rng.pick(&sorts);
+        let wrong: Vec<Pair> = sort.into_iter().filter(|pair| !allowed.contains(pair)).collect();
+        if !wrong.is_empty() {
+            return rng.pick(&wrong);
+        }
+    }
+}
+
 impl Case {
-    /// To the end, if it is worth a theorem; one order in four goes wrong.
+    /// To the end, if it is worth a theorem; one order in four has a wrong pair in place of one of its own, or behind them all.
     fn new(rng: &mut Rng, machine: &Machine, end: &Machine) -> Option<Self> {
         if machine.sections.len() > MOST_SECTIONS || pairs(machine).len() < 2 {
             return None;
@@ -41,13 +69,9 @@ impl Case {
             });
         }
         let at = rng.below(way.len());
-        let sections = way[at].sections.len();
-        let wrong = (rng.below(sections + 1), rng.below(sections + 1));
-        if pairs(&way[at]).contains(&wrong) {
-            return None;
-        }
-        order.truncate(at);
-        order.push(wrong);
+        let before = at.checked_sub(1).map(|i| &way[i]);
+        let wrong = wrong_pair(rng, &way[at], before);
+        order.splice(at..order.len().min(at + 1), [wrong]);
         Some(Case { order, end: None })
     }
 
@@ -82,7 +106,7 @@ fn of_file(rng: &mut Rng, i: usize, bytes: &[u8]) -> Option<Theorem> {
 
 fn of_machine(rng: &mut Rng, (op, counts, lent): &machines::Case) -> Option<Theorem> {
     let (answer, after) = change(*op, counts, lent);
-    let (Op::Combine, Answer::Done(done)) = (op, answer) else {
+    let Answer::Done(done) = answer else {
         return None;
     };
     let case = Case::new(rng, &unpack(counts, lent), &unpack(&done, &after))?;
@@ -99,13 +123,9 @@ pub fn theorems(seed: u64, count: usize) -> Vec<Theorem> {
         .filter_map(|(i, bytes)| of_file(&mut rng, i, bytes))
         .take(count / 2)
         .collect();
-    let handed = chains::cases(seed, 2 * count)
+    let of_machines = handed(seed, 8 * count)
         .into_iter()
-        .chain(machines::cases(seed, 4 * count, SMALL));
-    all.extend(
-        handed
-            .filter_map(|case| of_machine(&mut rng, &case))
-            .take(count - count / 2),
-    );
+        .filter_map(|case| of_machine(&mut rng, &case));
+    all.extend(of_machines.take(count - count / 2));
     all
 }
