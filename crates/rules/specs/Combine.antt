@@ -47,7 +47,7 @@ mate m i (line r) = none
 abbrev pub next : List SectionCode → ℕ → Option ℕ
 next m i = mate m i (get_or m i absent).success
 
--- the lowest pair of one of the k sections from number i on and what it may take in
+-- the lowest pair whose first is one of the k sections from number i on
 abbrev pub pairFrom : List SectionCode → ℕ → ℕ → Option (ℕ × ℕ)
 pairFrom m i zero = none
 pairFrom m i (suc k) = elim (next m i) [ none ↦ pairFrom m (suc i) k | some j ↦ some (i, j) ]

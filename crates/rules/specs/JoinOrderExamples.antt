@@ -68,9 +68,13 @@ pub orders-end : map ends ordered ≡ map inFinished ordered
 unfolding ends inFinished ordered
 orders-end = refl
 
--- word by word: what the claim says of a tree
+-- what the claim says of a tree, word by word,
 pub same-words : (o : Options) (t : Tree) → OrderIndependent o t → (ps : List (ℕ × ℕ)) (n : Machine) → EndsIn (cleaned (lowered o t)) ps n → encode n ≡ encode (finished o t)
 same-words o t claim ps n e = ap encode (claim.every ps n e)
+
+-- and that there is an order to the end
+pub some-order : (o : Options) (t : Tree) → OrderIndependent o t → (ps : List (ℕ × ℕ)) × EndsIn (cleaned (lowered o t)) ps (finished o t)
+some-order o t claim = claim.goesOn [] (cleaned (lowered o t)) refl
 
 -- ---- pairs
 
