@@ -249,8 +249,14 @@ fn check_file(tally: &mut Tally, rng: &mut Rng, bytes: &[u8]) {
 
 fn check_case(tally: &mut Tally, rng: &mut Rng, (op, counts, tables): &machines::Case) {
     let (answer, after) = change(*op, counts, tables);
-    let Answer::Done(done) = answer else {
-        return tally.add("machines refused", 1);
+    let done = match answer {
+        Answer::Done(done) => done,
+        Answer::Refused(_) => return tally.add("machines refused", 1),
+        Answer::Panic => {
+            return tally
+                .wrong
+                .push(format!("yogi panics: {}", line::print(counts, tables)))
+        }
     };
     let (machine, end) = (unpack(counts, tables), unpack(&done, &after));
     tally.add("machines handed in", 1);
