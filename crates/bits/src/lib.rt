@@ -77,7 +77,9 @@ pub fn read_field(s: &[u8], at: usize, w: usize) -> Option<(u64, usize)>
     requires { (length s.now ≤ mostBytes) × (w ≤ numberBits) }
     ensures { fieldRes result ≡ field s.now w at }
 {
-    let p = field_end(s, at, w)?;
+    let Some(p) = field_end(s, at, w) else {
+        return None;
+    };
     Some((peek(s, at, w), p))
 }
 

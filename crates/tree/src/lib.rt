@@ -54,7 +54,9 @@ fn fill(s: &[u8], c: Cursor) -> Result<Cursor, Refusal>
     if left >= BYTE_BITS {
         return Err(Refusal::LeftOver);
     }
-    let (v, d) = c.take(s, left)?;
+    let Ok((v, d)) = c.take(s, left) else {
+        return Err(Refusal::EndsInField);
+    };
     if v != 0 {
         return Err(Refusal::LeftOver);
     }

@@ -4,11 +4,11 @@ use mathlib.Core.Path.{sym}
 use Rattle.bits.proofs.Bits.{field-in, field-out, reached, not-reached}
 use Rattle.bits.proofs.read_field.Goals as goal
 
-pub returns-in_err-p : goal.returns-in_err-p
-returns-in_err-p c = rw c.from_residual.ensures (sym (field-out _ _ _ (not-reached _ _ _ c.in_err-p.ensures)))
+pub returns-in_default : goal.returns-in_default
+returns-in_default c = sym (field-out _ _ _ (not-reached _ _ _ c.in_default.ensures))
 
 pub peek-requires : goal.peek-requires
-peek-requires c = let k = reached c.in_ok-p.ensures in omega arith
+peek-requires c = let k = reached c.in-Some.ensures in omega arith
 
 pub returns : goal.returns
-returns c = let k = reached c.in_ok-p.ensures in rw (field-in _ _ _ k.inside, k.after, c.peek.ensures)
+returns c = let k = reached c.in-Some.ensures in rw (field-in _ _ _ k.inside, k.after, c.peek.ensures)
