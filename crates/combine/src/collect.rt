@@ -12,6 +12,16 @@ use crate::store::Places;
 use crate::write::{keep_heads, write_heads};
 use params::limits::{MOST_COUNT, MOST_LINES, MOST_NODES};
 
+// The words copied out. By a loop, since the library's `copy_from_slice` asks for `memmove` of the C library, and nothing else here does.
+fn copy_words(copy: &mut [u64], words: &[u64])
+    requires { length copy.old ≡ length words.now }
+    ensures { copy.new ≡ words.now }
+{
+    for i in 0..words.len() {
+        copy[i] = words[i];
+    }
+}
+
 // Heads are numbered and written out with their chains; the other tables are lent.
 fn gather(
     sections: &mut [u64],
@@ -24,7 +34,7 @@ fn gather(
     requires tables { (counts.now ≡ countsOf sections.old places.old.table.now) × (length numbers.old ≡ length sections.old) × (length copy.old ≡ length places.old.table.now) }
     ensures { Collects sections.old sections.new places.old places.new result }
 {
-    copy.copy_from_slice(places.words());
+    copy_words(copy, places.words());
     let heads = number_heads(numbers, counts);
     write_heads(
         sections,

@@ -10,7 +10,7 @@ write_heads-requires c =
     let m = c.requires.machine in
     let t = c.requires.tables in
     let n = c.number_heads-heads.ensures in
-    let e : c.copy_from_slice.new.self ≡ c.args.places.now.table.now = c.copy_from_slice.ensures.after ∙ c.words.ensures in
+    let e : c.copy_words.new.copy ≡ c.args.places.now.table.now = c.copy_words.ensures ∙ c.words.ensures in
     rw e (ready _ _ m.0 _ _ _ t.0 (c.number_heads-heads.auto.numbers ∙ t.1) n.0 n.2 _ refl m.1 _ refl _ refl refl)
 
 pub returns : goal.returns
@@ -18,7 +18,7 @@ returns c =
     let m = c.requires.machine in
     let t = c.requires.tables in
     let n = c.number_heads-heads.ensures in
-    let e : c.copy_from_slice.new.self ≡ c.args.places.now.table.now = c.copy_from_slice.ensures.after ∙ c.words.ensures in
+    let e : c.copy_words.new.copy ≡ c.args.places.now.table.now = c.copy_words.ensures ∙ c.words.ensures in
     let w : HeadsWritten (allHeld c.args.sections.now c.args.places.now.table.now) c.write_heads.new.sections c.args.places.now c.write_heads.new.places = rw e at c.write_heads.ensures in
     let r = c.keep_heads.ensures in
     record {
