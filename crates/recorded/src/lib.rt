@@ -137,14 +137,37 @@ pub fn print<P: Print>(to: &P, agree: u64, cases: u64, what: &[u8]) -> io::Resul
     to.write_all(what)
 }
 
+// A line without its line feed.
+fn bare(line: &[u8]) -> &[u8] {
+    match line {
+        [bare @ .., b'\n'] => bare,
+        _ => line,
+    }
+}
+
 // Of how many lines of a text is this so?
 fn lines_where<F: Fn(&[u8]) -> bool>(text: &[u8], holds: F) -> usize
     requires { F.IsAlwaysCallable holds }
     ensures { result ≤ length text.now }
 {
     text.split_inclusive(|b| *b == b'\n')
-        .filter(|line| holds(&line[..until(line, 0, b'\n')]))
+        .filter(|line| holds(bare(line)))
         .count()
+}
+
+// How many lines a text has.
+pub fn lines(text: &[u8]) -> usize
+    ensures { result ≤ length text.now }
+{
+    lines_where(text, |_| true)
+}
+
+// What comes of all lines of a text, gone over once.
+pub fn over_lines<A, F: Fn(A, &[u8]) -> A>(text: &[u8], start: A, with: F) -> A
+    requires { F.IsAlwaysCallable with }
+{
+    text.split_inclusive(|b| *b == b'\n')
+        .fold(start, |done, line| with(done, bare(line)))
 }
 
 // Of how many lines of a text `agrees` says so, to standard output. What it prints is compared.
@@ -156,7 +179,6 @@ pub fn replay<P: Print, F: Fn(&[u8]) -> bool>(
 ) -> io::Result<()>
     requires { F.IsAlwaysCallable agrees }
 {
-    let cases = lines_where(text, |_| true);
     let agree = lines_where(text, agrees);
-    print(to, agree as u64, cases as u64, what)
+    print(to, agree as u64, lines(text) as u64, what)
 }

@@ -6,7 +6,7 @@
 
 use params::options::CodegenOptions;
 use recorded::machine::{self, Tables};
-use recorded::{bytes, decimal, field, on_lines, replay, rest};
+use recorded::{bytes, decimal, field, lines, on_lines, over_lines, print, rest};
 use std::io;
 use tables::answer::Answer;
 use tree::Sizes;
@@ -104,38 +104,46 @@ fn last_row(line: &[u8], k: usize) -> &[u8] {
     rest(line, part_of(line, k), b';')
 }
 
-// A line: T, the file in hexadecimal, the options, the sizes, the lowered machine, the finished machine, parted by `;`. Does its file agree?
-fn on_file<F: FnOnce(&[u8], CodegenOptions) -> bool>(line: &[u8], agrees: F) -> bool
-    requires { F.IsAlwaysCallable agrees }
-{
+// Of the sizes, lowered machines and finished ones of some lines, how many agree. There are far fewer lines than a count holds.
+#[derive(Clone, Copy, Default)]
+struct Agree {
+    sizes: u64,
+    lowered: u64,
+    finished: u64,
+}
+
+impl Agree {
+    fn and(self, sizes: bool, lowered: bool, finished: bool) -> Agree {
+        Agree {
+            sizes: self.sizes.saturating_add(u64::from(sizes)),
+            lowered: self.lowered.saturating_add(u64::from(lowered)),
+            finished: self.finished.saturating_add(u64::from(finished)),
+        }
+    }
+}
+
+// A line more: T, the file in hexadecimal, the options, the sizes, the lowered machine, the finished machine, parted by `;`. Its file is read once for
+// all three.
+fn line(agree: Agree, line: &[u8]) -> Agree {
     let Some(options) = options(line) else {
-        return false;
+        return agree;
     };
     let mut file = [0u8; 1024];
     let n = bytes(field(line, 1, b';'), &mut file);
-    agrees(&file[..n], options)
-}
-
-fn size_line(line: &[u8]) -> bool {
-    on_file(line, |file, _| size_agrees(file, row(line, 3)))
-}
-
-fn lower_line(line: &[u8]) -> bool {
-    on_file(line, |file, options| {
-        machine_agrees(lower::lower, file, options, row(line, 4))
-    })
-}
-
-fn finish_line(line: &[u8]) -> bool {
-    on_file(line, |file, options| {
-        machine_agrees(finish::finish, file, options, last_row(line, 5))
-    })
+    let file = &file[..n];
+    agree.and(
+        size_agrees(file, row(line, 3)),
+        machine_agrees(lower::lower, file, options, row(line, 4)),
+        machine_agrees(finish::finish, file, options, last_row(line, 5)),
+    )
 }
 
 fn main(rt: HostRuntime) -> io::Result<()> {
     on_lines(&mut rt.reader(), |text| {
-        replay(&rt, text, b" sizes agree\n", size_line)?;
-        replay(&rt, text, b" lowered machines agree\n", lower_line)?;
-        replay(&rt, text, b" finished machines agree\n", finish_line)
+        let agree = over_lines(text, Agree::default(), line);
+        let cases = lines(text) as u64;
+        print(&rt, agree.sizes, cases, b" sizes agree\n")?;
+        print(&rt, agree.lowered, cases, b" lowered machines agree\n")?;
+        print(&rt, agree.finished, cases, b" finished machines agree\n")
     })
 }
