@@ -4,6 +4,7 @@ use mathlib.Core.Bool.{Bool, true, false}
 use lib.Dec.{ltb}
 use mathlib.Core.List.{List, ◌++◌, append_assoc}
 use Prim.Native.Nat.{ℕ, zero, suc, ◌+◌, ◌-◌, ◌*◌, ◌^◌, ◌≤◌, ◌<◌}
+use native.Mathlib.Nat.{zero-add}
 use native.Mathlib.Numerals.{add-one}
 use native.Mathlib.Omega.{arith}
 use lib.IntN.{pos, negsuc}
@@ -37,11 +38,16 @@ pub same-chars : (s l : List ℕ) (i i' m m' p p' : ℕ) → i ≡ i' → m ≡ 
 same-chars s l i i' m m' p p' e f g = rw (e, f, g)
 
 -- a turn of the copying loop
-pub next-char : (s l r : List ℕ) (n p k w : ℕ) → k < n → w ≡ spelled s charBits (p + 7 * k) → sets l k (charsAt s (n - k) (p + 7 * k)) ≡ r
+pub next-char : (s l r : List ℕ) (i n p k w : ℕ) → k < n → w ≡ spelled s charBits (p + 7 * k) → sets l (i + k) (charsAt s (n - k) (p + 7 * k)) ≡ r
+    → sets (set l (i + k) w) (i + (k + 1)) (charsAt s (n - (k + 1)) (p + 7 * (k + 1))) ≡ r
+next-char s l r i n p k w h e q =
+    same-chars s (set l (i + k) w) (i + (k + 1)) (i + k + 1) (n - (k + 1)) (n - k - 1) (p + 7 * (k + 1)) (p + 7 * k + 7) (omega arith) (omega arith) (omega arith)
+    ∙ (one-char s l (n - k) (i + k) (p + 7 * k) w (omega arith) e ∙ q)
+
+-- the same where storing begins at a part's start
+pub next-stored : (s l r : List ℕ) (n p k w : ℕ) → k < n → w ≡ spelled s charBits (p + 7 * k) → sets l k (charsAt s (n - k) (p + 7 * k)) ≡ r
     → sets (set l k w) (k + 1) (charsAt s (n - (k + 1)) (p + 7 * (k + 1))) ≡ r
-next-char s l r n p k w h e q =
-    same-chars s (set l k w) (k + 1) (k + 1) (n - (k + 1)) (n - k - 1) (p + 7 * (k + 1)) (p + 7 * k + 7) refl (omega arith) (omega arith)
-    ∙ (one-char s l (n - k) k (p + 7 * k) w (omega arith) e ∙ q)
+next-stored s l r n p k w h e q = rw (zero-add k, zero-add (k + 1)) at (next-char s l r 0 n p k w h e (rw (zero-add k) q))
 
 -- the whole of a list is stored
 pub all-set : (l vs : List ℕ) → length vs ≡ length l → sets l 0 vs ≡ vs

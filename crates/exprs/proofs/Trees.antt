@@ -96,7 +96,7 @@ pub record Sum (l r e : Expr) : Type 0 where
   pub left-cost : exprCost l ≤ instrsANode * (ofExpr l).nodes
   pub right-cost : exprCost r ≤ instrsANode * (ofExpr r).nodes
 
-binop-sum : {e l r : Expr} {o : Binop} → e ≡ binop o l r → Sum l r e
+pub binop-sum : {e l r : Expr} {o : Binop} → e ≡ binop o l r → Sum l r e
 unfolding ofExpr node both
 binop-sum {l = l} {r = r} h = rw h (record { nodes = omega arith; strings = refl; characters = refl; left-cost = expr-most l; right-cost = expr-most r })
 
@@ -106,7 +106,7 @@ pub record Over (r e : Expr) : Type 0 where
   pub characters : (ofExpr e).characters ≡ (ofExpr r).characters
   pub cost : exprCost r ≤ instrsANode * (ofExpr r).nodes
 
-unop-over : {e r : Expr} {o : Unop} → e ≡ unop o r → Over r e
+pub unop-over : {e r : Expr} {o : Unop} → e ≡ unop o r → Over r e
 unfolding ofExpr node
 unop-over {r = r} h = rw h (record { nodes = omega arith; strings = refl; characters = refl; cost = expr-most r })
 

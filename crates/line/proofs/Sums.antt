@@ -38,7 +38,7 @@ costs_sum t i (suc n) h =
     let e = costs_sum t (i + 1) n (omega arith) in
     rw (d, sum_by-cons nodeCost (get_or t i 0) (take n (drop (i + 1) t)), e) refl
 
-costs-both : (t : List ℕ) (i a b : ℕ) → costs t i (a + b) ≡ costs t i a + costs t (i + a) b
+pub costs-both : (t : List ℕ) (i a b : ℕ) → costs t i (a + b) ≡ costs t i a + costs t (i + a) b
 unfolding costs
 costs-both t i zero b =
     let e : 0 + b ≡ b = omega arith in
@@ -63,7 +63,7 @@ node-one : (t : List ℕ) (i j : ℕ) → j ≡ i + 1 → costs t i (j - i) ≡ 
 unfolding costs
 node-one t i j p = let e : j - i ≡ suc 0 = omega arith in rw e (omega arith)
 
-nothing : (t : List ℕ) (j : ℕ) → costs t j (j - j) ≡ 0
+pub nothing : (t : List ℕ) (j : ℕ) → costs t j (j - j) ≡ 0
 unfolding costs
 nothing t j = let e : j - j ≡ 0 = omega arith in rw e
 

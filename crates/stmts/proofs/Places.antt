@@ -105,7 +105,7 @@ pub record Sum (e : Expr) (x y b : Block) : Type 0 where
   pub deep-then : deep x < deep b
   pub deep-else : deep y < deep b
 
-ite-sum : (e : Expr) (x y b : Block) → b ≡ ite e x y end → Sum e x y b
+pub ite-sum : (e : Expr) (x y b : Block) → b ≡ ite e x y end → Sum e x y b
 unfolding ofBlock statement node both emptyTally width deep
 ite-sum e x y b q = rw q (record { nodes = omega arith; strings = omega arith; characters = omega arith; widths = omega arith; deep-then = omega arith; deep-else = omega arith })
 
@@ -166,7 +166,7 @@ ite-at a c h k =
     }
 
 -- what is none of the other kinds is an Ite
-else-ite : {t s : List ℕ} {m i z : ℕ} {x : Block} → HoldsB t s m 1 i x z → (kindIn (get_or t i 0) ≡ gotoKind → ⊥) → (kindIn (get_or t i 0) ≡ stepKind → ⊥) → (kindIn (get_or t i 0) ≡ assignKind → ⊥) → kindIn (get_or t i 0) ≡ iteKind
+pub else-ite : {t s : List ℕ} {m i z : ℕ} {x : Block} → HoldsB t s m 1 i x z → (kindIn (get_or t i 0) ≡ gotoKind → ⊥) → (kindIn (get_or t i 0) ≡ stepKind → ⊥) → (kindIn (get_or t i 0) ≡ assignKind → ⊥) → kindIn (get_or t i 0) ≡ iteKind
 unfolding tag
 else-ite {t} {i = i} {x = x} h a b c = by x (isEnd x) refl (not-end h (λ z. omega arith)) (kind-held (omega arith) h)
   where
