@@ -162,14 +162,6 @@ pub fn lines(text: &[u8]) -> usize
     lines_where(text, |_| true)
 }
 
-// What comes of all lines of a text, gone over once.
-pub fn over_lines<A, F: Fn(A, &[u8]) -> A>(text: &[u8], start: A, with: F) -> A
-    requires { F.IsAlwaysCallable with }
-{
-    text.split_inclusive(|b| *b == b'\n')
-        .fold(start, |done, line| with(done, bare(line)))
-}
-
 // Of how many lines of a text `agrees` says so, to standard output. What it prints is compared.
 pub fn replay<P: Print, F: Fn(&[u8]) -> bool>(
     to: &P,

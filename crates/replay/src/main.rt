@@ -6,7 +6,7 @@
 
 use params::options::CodegenOptions;
 use recorded::machine::{self, Tables};
-use recorded::{bytes, decimal, field, lines, on_lines, over_lines, print, rest};
+use recorded::{bytes, decimal, field, lines, on_lines, print, rest};
 use std::io;
 use tables::answer::Answer;
 use tree::Sizes;
@@ -120,27 +120,35 @@ impl Agree {
             finished: self.finished.saturating_add(u64::from(finished)),
         }
     }
+
+    // A line more: T, the file in hexadecimal, the options, the sizes, the lowered machine, the finished machine, parted by `;`. Its file is spelled
+    // out once for all three.
+    fn with(self, line: &[u8]) -> Agree {
+        let Some(options) = options(line) else {
+            return self;
+        };
+        let mut file = [0u8; 1024];
+        let n = bytes(field(line, 1, b';'), &mut file);
+        let file = &file[..n];
+        self.and(
+            size_agrees(file, row(line, 3)),
+            machine_agrees(lower::lower, file, options, row(line, 4)),
+            machine_agrees(finish::finish, file, options, last_row(line, 5)),
+        )
+    }
 }
 
-// A line more: T, the file in hexadecimal, the options, the sizes, the lowered machine, the finished machine, parted by `;`. Its file is read once for
-// all three.
-fn line(agree: Agree, line: &[u8]) -> Agree {
-    let Some(options) = options(line) else {
-        return agree;
-    };
-    let mut file = [0u8; 1024];
-    let n = bytes(field(line, 1, b';'), &mut file);
-    let file = &file[..n];
-    agree.and(
-        size_agrees(file, row(line, 3)),
-        machine_agrees(lower::lower, file, options, row(line, 4)),
-        machine_agrees(finish::finish, file, options, last_row(line, 5)),
-    )
+// The lines are gone over once.
+fn all_lines(text: &[u8]) -> Agree {
+    text.split_inclusive(|b| *b == b'\n')
+        .fold(Agree::default(), |agree, line| {
+            agree.with(line.strip_suffix(b"\n").unwrap_or(line))
+        })
 }
 
 fn main(rt: HostRuntime) -> io::Result<()> {
     on_lines(&mut rt.reader(), |text| {
-        let agree = over_lines(text, Agree::default(), line);
+        let agree = all_lines(text);
         let cases = lines(text) as u64;
         print(&rt, agree.sizes, cases, b" sizes agree\n")?;
         print(&rt, agree.lowered, cases, b" lowered machines agree\n")?;
